@@ -1,0 +1,2 @@
+// What the sites of a works have, show and take.
+pub mod sheet;

@@ -1,0 +1,18 @@
+ghost use Rattle.syntax.specs.Promises.{Refused-right, Refused-all, Accepted-right, Read-right, Read-all, Read-one, Restored, Deep-right, Limit-right, Doomed-right, Sheet-right};
+
+// The theorems of reading.
+pub fn reading_stands() -> u8
+    ensures refused { λ _. ⌜ Refused-right ⌝ }
+    ensures eleven { λ _. ⌜ Refused-all ⌝ }
+    ensures accepted { λ _. ⌜ Accepted-right ⌝ }
+    ensures right { λ _. ⌜ Read-right ⌝ }
+    ensures all { λ _. ⌜ Read-all ⌝ }
+    ensures one { λ _. ⌜ Read-one ⌝ }
+    ensures restored { λ _. ⌜ Restored ⌝ }
+    ensures deep { λ _. ⌜ Deep-right ⌝ }
+    ensures limit { λ _. ⌜ Limit-right ⌝ }
+    ensures doomed { λ _. ⌜ Doomed-right ⌝ }
+    ensures sheet { λ _. ⌜ Sheet-right ⌝ }
+{
+    0
+}
