@@ -1,1 +1,4 @@
+-- the limits of a sheet
 pub mod Fitted
+-- what a sheet says
+pub mod Sheets

@@ -1,2 +1,3 @@
 // What the sites of a works have, show and take.
 pub mod sheet;
+pub mod stations;
