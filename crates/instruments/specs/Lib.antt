@@ -2,3 +2,7 @@
 pub mod Fitted
 -- what a sheet says
 pub mod Sheets
+-- what registers show, answer and take
+pub mod Registers
+-- what a bench shows
+pub mod Benches

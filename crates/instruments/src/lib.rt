@@ -1,3 +1,6 @@
 // What the sites of a works have, show and take.
+mod banks;
+pub mod bench;
 pub mod sheet;
 pub mod stations;
+pub mod works;
