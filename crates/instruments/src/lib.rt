@@ -1,6 +1,7 @@
 // What the sites of a works have, show and take.
 mod banks;
 pub mod bench;
+pub mod benches;
 pub mod sheet;
 pub mod stations;
 pub mod works;
