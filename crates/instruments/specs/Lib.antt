@@ -6,3 +6,5 @@ pub mod Sheets
 pub mod Registers
 -- what a bench shows
 pub mod Benches
+-- what a recorded sheet shows
+pub mod Records

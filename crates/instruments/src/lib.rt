@@ -2,6 +2,8 @@
 mod banks;
 pub mod bench;
 pub mod benches;
+pub mod record;
+pub mod recorded;
 pub mod sheet;
 pub mod stations;
 pub mod works;
