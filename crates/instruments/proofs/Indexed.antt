@@ -25,8 +25,8 @@ pub counted-unfitted : (f : ℕ → Option ℕ) (k s n : ℕ) → k ≤ n → ro
 counted-unfitted f k s n h = row-unfitted (map f (counting 0 k)) s n (rw (length-map-counting f 0 k) h)
 
 -- sites that a function of their number gives
-pub counted-site-row : (F : ℕ → List (Option ℕ)) (m s : ℕ) → s < m → site-row (map F (counting 0 m)) s ≡ F s
-counted-site-row F m s h = getD-map-counting F 0 m s s [] h (omega arith)
+pub counted-row : (F : ℕ → List (Option ℕ)) (m s : ℕ) → s < m → site-row (map F (counting 0 m)) s ≡ F s
+counted-row F m s h = getD-map-counting F 0 m s s [] h (omega arith)
 
 pub counted-none : (F : ℕ → List (Option ℕ)) (m s : ℕ) → m ≤ s → site-row (map F (counting 0 m)) s ≡ []
 counted-none F m s h = getD-past (map F (counting 0 m)) s [] (rw (length-map-counting F 0 m) h)

@@ -8,3 +8,9 @@ pub mod Registers
 pub mod Benches
 -- what a recorded sheet shows
 pub mod Records
+-- where the registers of an image lie
+pub mod Layout
+-- which bytes are an image
+pub mod Accepted
+-- what making an image answers
+pub mod Made

@@ -2,6 +2,9 @@
 mod banks;
 pub mod bench;
 pub mod benches;
+pub mod image;
+pub mod images;
+pub mod makes;
 pub mod record;
 pub mod recorded;
 pub mod sheet;
