@@ -14,3 +14,5 @@ pub mod Layout
 pub mod Accepted
 -- what making an image answers
 pub mod Made
+-- the text of a survey
+pub mod Surveys

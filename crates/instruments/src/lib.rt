@@ -9,4 +9,5 @@ pub mod record;
 pub mod recorded;
 pub mod sheet;
 pub mod stations;
+pub mod survey;
 pub mod works;

@@ -10,7 +10,7 @@ use lib.Dec.{leb}
 use borrow.Author.Tests.{le-leb, lt-leb}
 use borrow.Author.Needs.{needs}
 use lib.Seq.{take-append-seam, drop-append-add}
-use Rattle.std.proofs.shelf.Lists.{append-assoc, length-take-le, drop-drop}
+use Rattle.std.proofs.shelf.Lists.{append-assoc, length-take-le, drop-drop, take-append-drop}
 use Rattle.std.specs.declared.result.Result.{Result}
 use Rattle.std.specs.declared.result.Result.the-variants.{Ok, Err}
 use Rattle.std.specs.Results.{isErr, ErrBy}
@@ -49,7 +49,7 @@ over-over at t u out h =
     ∙ ap (λ (x : List ℕ). take at out ++ x) (sym (append-assoc t u (drop (at + length (t ++ u)) out)))
 
 -- a piece after another is their join
-took-then : {p q r : Pen} {out a b t u : List ℕ} → Took p out t q a → Took q a u r b → Took p out (t ++ u) r b
+pub took-then : {p q r : Pen} {out a b t u : List ℕ} → Took p out t q a → Took q a u r b → Took p out (t ++ u) r b
 took-then {p} {q} {r} {out} {a} {b} {t} {u} x y =
     let l : length (t ++ u) ≡ length t + length u = length-append t u in
     record {
@@ -62,6 +62,11 @@ took-then {p} {q} {r} {out} {a} {b} {t} {u} x y =
             let m : q .limit ≤ length a = omega (arith, ap length w, length-over (p .at) t out k, x .limit) in
             y .wrote m ∙ ap (λ n. over n u a) (x .place) ∙ ap (λ (c : List ℕ). over (p .at + length t) u c) w ∙ over-over (p .at) t u out k
     }
+
+-- no text yet
+pub begins : (p : Pen) (out : List ℕ) → p .at ≤ p .limit → Took p out [] p out
+begins p out h =
+    record { room = omega arith; place = omega arith; limit = refl; wrote = λ _. sym (ap (λ n. take (p .at) out ++ drop n out) (add-zero (p .at)) ∙ take-append-drop (p .at) out) }
 
 pub then : {p q r : Pen} {out a b t u : List ℕ} {e : Result Unit Short} → Took p out t q a → Writes q a u e r b → Writes p out (t ++ u) e r b
 then {e = Ok v} x y = record { ended = took-then x (y .ended) }
