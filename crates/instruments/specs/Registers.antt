@@ -1,4 +1,5 @@
 -- What registers show, and what asking and setting one answers and leaves. Gauges and gates go by the same rules.
+use mathlib.Core.Path.{_≡_}
 use mathlib.Core.Bool.{Bool, true, false, cond}
 use mathlib.Core.List.{List, [], _∷_}
 use Prim.Native.Nat.{ℕ, _≤_}
@@ -61,3 +62,12 @@ placed rows s n = row-placed (site-row rows s) s n
 -- no more than 16 sites, and no more than 32 registers at one
 abbrev pub Few : Shown → Type 0
 Few rows = (length rows ≤ 16) × ((s : ℕ) → length (site-row rows s) ≤ 32)
+
+-- what a register answers after a set that answered
+abbrev pub confirmed : Result ℕ RegisterFault → ℕ → Result ℕ RegisterFault
+confirmed (Ok old) v = Ok v
+confirmed (Err e) v = Err e
+
+-- register n of site s is not register k of site t
+abbrev pub Elsewhere : ℕ → ℕ → ℕ → ℕ → Type 0
+Elsewhere s n t k = (s ≡ t) → (n ≡ k) → ⊥

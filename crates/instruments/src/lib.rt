@@ -4,6 +4,7 @@ pub mod bench;
 pub mod benches;
 pub mod image;
 pub mod images;
+pub mod laws;
 pub mod makes;
 pub mod record;
 pub mod recorded;
