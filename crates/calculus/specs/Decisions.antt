@@ -7,7 +7,7 @@ use lib.ListN.{length}
 use Rattle.syntax.specs.declared.program.Mobile.{Mobile}
 use Rattle.syntax.specs.declared.program.Mobile.the-variants.{Code, Address, Number}
 use Rattle.calculus.specs.Types.{Ty, num, none, fn, box, at, both, World, site, bound, Sheet}
-use Rattle.calculus.specs.Typing.{IsNum, AsBox, AsAt, Carries, Known}
+use Rattle.calculus.specs.Typing.{Carries, Known}
 
 abbrev suc-dec : {m n : ℕ} → Dec (m ≡ n) → Dec (suc m ≡ suc n)
 suc-dec (yes p) = yes (ap suc p)
@@ -134,31 +134,23 @@ abbrev pub is-known : (S : Sheet) (n : ℕ) (w : World) → Dec (Known S n w)
 is-known S n (site s) = is-less s (length S)
 is-known S n (bound k) = is-less k n
 
-abbrev is-box : (A : Ty) → Dec (AsBox A (λ B. Unit {0}))
-is-box num = no (λ h. h)
-is-box none = no (λ h. h)
-is-box (fn A B) = no (λ h. h)
-is-box (box A) = yes tt
-is-box (at A) = no (λ h. h)
-is-box (both A B) = no (λ h. h)
+abbrev is-box : (A : Ty) → Dec ((B : Ty) × (A ≡ box B))
+is-box num = no (λ h. let z : _≡_ {A = ℕ} 0 3 = ap tag (h .1) in omega arith)
+is-box none = no (λ h. let z : _≡_ {A = ℕ} 1 3 = ap tag (h .1) in omega arith)
+is-box (fn A B) = no (λ h. let z : _≡_ {A = ℕ} 2 3 = ap tag (h .1) in omega arith)
+is-box (box A) = yes (A, refl)
+is-box (at A) = no (λ h. let z : _≡_ {A = ℕ} 4 3 = ap tag (h .1) in omega arith)
+is-box (both A B) = no (λ h. let z : _≡_ {A = ℕ} 5 3 = ap tag (h .1) in omega arith)
 
-abbrev is-at : (A : Ty) → Dec (AsAt A (λ B. Unit {0}))
-is-at num = no (λ h. h)
-is-at none = no (λ h. h)
-is-at (fn A B) = no (λ h. h)
-is-at (box A) = no (λ h. h)
-is-at (at A) = yes tt
-is-at (both A B) = no (λ h. h)
-
-abbrev is-num : (A : Ty) → Dec (IsNum A)
-is-num num = yes tt
-is-num none = no (λ h. h)
-is-num (fn A B) = no (λ h. h)
-is-num (box A) = no (λ h. h)
-is-num (at A) = no (λ h. h)
-is-num (both A B) = no (λ h. h)
+abbrev is-at : (A : Ty) → Dec ((B : Ty) × (A ≡ at B))
+is-at num = no (λ h. let z : _≡_ {A = ℕ} 0 4 = ap tag (h .1) in omega arith)
+is-at none = no (λ h. let z : _≡_ {A = ℕ} 1 4 = ap tag (h .1) in omega arith)
+is-at (fn A B) = no (λ h. let z : _≡_ {A = ℕ} 2 4 = ap tag (h .1) in omega arith)
+is-at (box A) = no (λ h. let z : _≡_ {A = ℕ} 3 4 = ap tag (h .1) in omega arith)
+is-at (at A) = yes (A, refl)
+is-at (both A B) = no (λ h. let z : _≡_ {A = ℕ} 5 4 = ap tag (h .1) in omega arith)
 
 abbrev pub is-carried : (f : Mobile) (A : Ty) → Dec (Carries f A)
 is-carried Code A = is-box A
 is-carried Address A = is-at A
-is-carried Number A = is-num A
+is-carried Number A = same-type A num
