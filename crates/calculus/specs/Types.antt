@@ -11,11 +11,13 @@ pub data Ty : Type 0 where
   box : Ty → Ty
   at : Ty → Ty
   both : Ty → Ty → Ty
+  deriving Discrete as same-type
 
 -- A world is a site, or the bound world at a level: the outermost is 0.
 pub data World : Type 0 where
   site : ℕ → World
   bound : ℕ → World
+  deriving Discrete as world-discrete
 
 -- A sheet says of each site how many gauges and how many gates it has.
 abbrev pub Sheet : Type 0

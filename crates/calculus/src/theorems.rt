@@ -1,6 +1,6 @@
 ghost use Rattle.calculus.specs.Theorems.{Substitution, Progress, Stepping, Preservation, SilentHere, SheetStays, StartTyped, RunKeeps, Safety, AnswerTyped};
 ghost use Rattle.calculus.specs.Simulation.{Simulation, RunSimulation, StartMeans, MachineSafety};
-ghost use Rattle.calculus.specs.Checker.{CheckDecides};
+ghost use Rattle.calculus.specs.Checker.{CheckDecides, JudgeRecurs, TypeRecurs};
 ghost use Rattle.calculus.specs.Run.{ExecuteCounts, NeverBroken, StaysWithin, StartsWithin};
 ghost use Rattle.calculus.specs.Law.{LogLaw, LineStands, RunSettled};
 
@@ -48,9 +48,11 @@ pub fn simulation_stands() -> u8
     0
 }
 
-// The checker decides typing.
+// The checker decides typing, and goes from a row to its parts.
 pub fn checking_decides() -> u8
-    ensures { λ _. ⌜ CheckDecides ⌝ }
+    ensures decides { λ _. ⌜ CheckDecides ⌝ }
+    ensures terms { λ _. ⌜ JudgeRecurs ⌝ }
+    ensures types { λ _. ⌜ TypeRecurs ⌝ }
 {
     0
 }
