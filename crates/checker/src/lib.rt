@@ -1,0 +1,2 @@
+// Type-checking a program.
+pub mod types;
