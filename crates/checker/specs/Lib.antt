@@ -2,3 +2,5 @@
 pub mod TypeTable
 -- whether two types are the same
 pub mod Comparing
+-- the context that a scope list stands for
+pub mod Scopes

@@ -1,2 +1,4 @@
 // Type-checking a program.
+mod binding;
+pub mod context;
 pub mod types;
