@@ -79,13 +79,13 @@ NeverBroken = (P : Program) (A : Ty) (v u : Works) (n b : ℕ) (es : List Event)
 pub data Register : Type 0 where
   register : Instrument → ℕ → ℕ → Register
 
-abbrev same-kind : Instrument → Instrument → Bool
+abbrev pub same-kind : Instrument → Instrument → Bool
 same-kind a-gauge a-gauge = true
 same-kind a-gauge a-gate = false
 same-kind a-gate a-gauge = false
 same-kind a-gate a-gate = true
 
-abbrev same-register : Register → Register → Bool
+abbrev pub same-register : Register → Register → Bool
 same-register (register κ s n) (register μ a b) = same-kind κ μ && (eqb s a && eqb n b)
 
 abbrev pub is-among : Register → List Register → Bool
@@ -103,6 +103,24 @@ touched-by (quiet ∷ es) qs = touched-by es qs
 touched-by (looked a b c ∷ es) qs = touched-by es qs
 touched-by (was-read s g c ∷ es) qs = touched-by es (marked (register a-gauge s g) qs)
 touched-by (was-set s g x c ∷ es) qs = touched-by es (marked (register a-gate s g) qs)
+
+-- whether a step read or set that register
+abbrev pub touches : Register → List Event → Bool
+touches r [] = false
+touches r (quiet ∷ es) = touches r es
+touches r (looked a b c ∷ es) = touches r es
+touches r (was-read s g c ∷ es) = same-register r (register a-gauge s g) || touches r es
+touches r (was-set s g x c ∷ es) = same-register r (register a-gate s g) || touches r es
+
+-- no register is there twice
+abbrev pub Distinct : List Register → Type 0
+Distinct [] = Unit {0}
+Distinct (r ∷ qs) = (is-among r qs ≡ false) × Distinct qs
+
+-- The registers touched are those before and those that a step read or set, and each is there once.
+abbrev pub TouchedOnce : Type 0
+TouchedOnce = (es : List Event) (qs : List Register) →
+    ((r : Register) → is-among r (touched-by es qs) ≡ (is-among r qs || touches r es)) × (Distinct qs → Distinct (touched-by es qs))
 
 -- how many entries a table has at all sites
 abbrev pub total : {A : Type 0} → Table A → ℕ
