@@ -145,4 +145,4 @@ type-less k (Written.At x) a = omega arith
 type-less k (Written.Both x y) a = omega arith
 
 pub type-recurs : TypeRecurs
-type-recurs P o n r e = decode-at (λ k f r. grow-type f r) num AboveType (λ p f g k h r a. type-agree f g k h r a) type-less (P .types) (o .types) n r e
+type-recurs rs o n r e = decode-at (λ k f r. grow-type f r) num AboveType (λ p f g k h r a. type-agree f g k h r a) type-less rs o n r e

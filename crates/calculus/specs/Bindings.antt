@@ -1,4 +1,4 @@
--- When a binding fits the outermost level of its kind, and the contexts before and after it is put in.
+-- When a binding may be put in for the outermost level of its kind, and what is bound before and after.
 use mathlib.Core.Path.{_≡_}
 use Prim.Native.Nat.{ℕ, suc, _<_}
 use mathlib.Core.List.{List, _∷_, map}
@@ -10,9 +10,12 @@ use Rattle.calculus.specs.Substitution.{substitute-world}
 use Rattle.calculus.specs.Tables.{entry}
 use Rattle.calculus.specs.Typing.{Entries, Context, HasValue}
 
+-- the bound world at level 0 becomes site s
 abbrev pub moved : ℕ → List (Ty × World) → List (Ty × World)
 moved s hs = map (λ h. (h .0, substitute-world (world s) (h .1))) hs
 
+-- A value or a label needs the type of the level at its site, a site must be on the sheet, and a kept continuation must expect
+-- what the level expects.
 pub data BindingTyped (S : Sheet) (Σ : Entries) : Binding → Context → Context → Type 0 where
   of-value : {v : Value} {A : Ty} {s n : ℕ} {vs cs : List (Ty × World)} → HasValue S Σ v A s →
       BindingTyped S Σ (value v) (record { values = (A, site s) ∷ vs; worlds = n; continuations = cs }) (record { values = vs; worlds = n; continuations = cs })

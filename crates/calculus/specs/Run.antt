@@ -1,4 +1,4 @@
--- A run under a budget, with the limits of the tables, and what a machine shows of itself.
+-- A run under a budget, with the limits of the tables, and where a machine stands.
 use mathlib.Core.Path.{_≡_}
 use mathlib.Core.Bool.{_||_, Bool, true, false, cond, _&&_}
 use Prim.Native.Nat.{ℕ, zero, suc, _+_, _<_, _≤_}
@@ -16,14 +16,15 @@ use Rattle.calculus.specs.NetworkTyping.{Agrees}
 use Rattle.calculus.specs.Checker.{typed, check}
 use Rattle.calculus.specs.Limits.{lacks}
 
--- why a run ended
+-- Why a run ended. The first of these that holds is given.
 pub data Ending : Type 0 where
   done : Ending
   spent : Ending
   at-silent : Instrument → ℕ → ℕ → Ending  -- the next step meets a silent register
   at-full : ℕ → ℕ → Ending  -- the next step lacks places in a table of that kind, at that site
-  broken : Ending  -- no rule fits: this never happens to an accepted program
+  broken : Ending  -- no rule fits: an accepted program never comes to this
 
+-- What a run gives: why it ended, after how many steps, what they looked up, read and set, and the works and the state then.
 pub record Result : Type 0 where
   pub ending : Ending
   pub steps : ℕ
@@ -37,6 +38,7 @@ stop e v M = record { ending = e; steps = 0; events = []; works = v; end = M }
 abbrev pub one-more : Event → Result → Result
 one-more e r = record { ending = r .ending; steps = suc (r .steps); events = e ∷ r .events; works = r .works; end = r .end }
 
+-- A run steps until it is done, its budget is used, or the next step meets a silent register or lacks places.
 abbrev pub execute : Program → ℕ → Works → Machine.State → Result
 execute P zero v M = elim (Machine.is-done M) [ true ↦ stop done v M | false ↦ stop spent v M ]
 execute P (suc b) v M =
@@ -50,10 +52,11 @@ execute P (suc b) v M =
           ]
     ]
 
--- a step could be taken, but a table lacks places for it
+-- There is a step, but a table lacks places for it.
 abbrev pub Full : Program → Works → Machine.State → ℕ → ℕ → Type 0
 Full P v M κ s = (s ≡ Machine.stands-at M) × (lacks P M ≡ some κ) × ((L : Machine.State) × (u : Works) × (e : Event) × (Machine.step P v M ≡ Machine.stepped L u e))
 
+-- the run with budget b ended so
 abbrev pub EndsSo : Program → ℕ → Result → Ending → Type 0
 EndsSo P b r done = Machine.is-done (r .end) ≡ true
 EndsSo P b r spent = (r .steps ≡ b) × (Machine.is-done (r .end) ≡ false)
@@ -61,28 +64,28 @@ EndsSo P b r (at-silent κ s n) = (r .steps < b) × (Machine.step P (r .works) (
 EndsSo P b r (at-full κ s) = (r .steps < b) × Full P (r .works) (r .end) κ s
 EndsSo P b r broken = (Machine.step P (r .works) (r .end) ≡ Machine.stuck) × (Machine.is-done (r .end) ≡ false)
 
--- the count of a run is the number of steps between the two states, and the run ends for the reason that it gives
+-- The count of a run is the number of steps between the two states, and the run ended for the reason that it gives.
 abbrev pub ExecuteCounts : Type 0
 ExecuteCounts = (P : Program) (b : ℕ) (v : Works) (M : Machine.State) →
     let r = execute P b v M in
     Machine.Run P v M (r .steps) (r .events) (r .works) (r .end) × EndsSo P b r (r .ending)
 
--- a run of an accepted program never breaks, over any works with its sheet, from any state that it comes to
+-- A run of an accepted program always finds a rule, on any works of its sheet, from any state that the program comes to.
 abbrev pub NeverBroken : Type 0
 NeverBroken = (P : Program) (A : Ty) (v u : Works) (n b : ℕ) (es : List Event) (M : Machine.State) → Ordered P →
     check P ≡ typed A → Agrees (P .sheet) v → Machine.Run P v (Machine.started P) n es u M → execute P b u M .ending ≡ broken → ⊥
 
--- a gauge or a gate of a site
+-- a gauge or a gate of a site, and its number
 pub data Register : Type 0 where
   register : Instrument → ℕ → ℕ → Register
 
-abbrev same-kind : Instrument → Instrument → Bool
+abbrev pub same-kind : Instrument → Instrument → Bool
 same-kind a-gauge a-gauge = true
 same-kind a-gauge a-gate = false
 same-kind a-gate a-gauge = false
 same-kind a-gate a-gate = true
 
-abbrev same-register : Register → Register → Bool
+abbrev pub same-register : Register → Register → Bool
 same-register (register κ s n) (register μ a b) = same-kind κ μ && (eqb s a && eqb n b)
 
 abbrev pub is-among : Register → List Register → Bool
@@ -93,7 +96,7 @@ is-among r (q ∷ qs) = same-register r q || is-among r qs
 abbrev pub marked : Register → List Register → List Register
 marked r qs = cond (is-among r qs) qs (r ∷ qs)
 
--- the registers touched, each once: those before, and those that the steps touched
+-- The registers touched, each once: those before, and those that the steps read or set.
 abbrev pub touched-by : List Event → List Register → List Register
 touched-by [] qs = qs
 touched-by (quiet ∷ es) qs = touched-by es qs
@@ -101,6 +104,25 @@ touched-by (looked a b c ∷ es) qs = touched-by es qs
 touched-by (was-read s g c ∷ es) qs = touched-by es (marked (register a-gauge s g) qs)
 touched-by (was-set s g x c ∷ es) qs = touched-by es (marked (register a-gate s g) qs)
 
+-- whether a step read or set that register
+abbrev pub touches : Register → List Event → Bool
+touches r [] = false
+touches r (quiet ∷ es) = touches r es
+touches r (looked a b c ∷ es) = touches r es
+touches r (was-read s g c ∷ es) = same-register r (register a-gauge s g) || touches r es
+touches r (was-set s g x c ∷ es) = same-register r (register a-gate s g) || touches r es
+
+-- no register is there twice
+abbrev pub Distinct : List Register → Type 0
+Distinct [] = Unit {0}
+Distinct (r ∷ qs) = (is-among r qs ≡ false) × Distinct qs
+
+-- The registers touched are those before and those that a step read or set, and each is there once.
+abbrev pub TouchedOnce : Type 0
+TouchedOnce = (es : List Event) (qs : List Register) →
+    ((r : Register) → is-among r (touched-by es qs) ≡ (is-among r qs || touches r es)) × (Distinct qs → Distinct (touched-by es qs))
+
+-- how many entries a table has at all sites
 abbrev pub total : {A : Type 0} → Table A → ℕ
 total [] = 0
 total (r ∷ t) = length r + total t
@@ -110,7 +132,8 @@ pub data Shown : Type 0 where
   returning : Shown
   finished : Shown
 
--- site, phase, and the places taken by frames, kept continuations and published values, and the registers touched
+-- Where a machine stands: site and phase, the places taken by frames, kept continuations and published values, and how many
+-- registers were touched.
 pub record Stand : Type 0 where
   pub site : ℕ
   pub phase : Shown
@@ -130,7 +153,7 @@ abbrev pub stand-of : Machine.State → List Register → Stand
 stand-of (Machine.state H w k p c) qs =
     record { site = w; phase = shown-phase k p; frames = c .frames; kept = total (H .kept); published = total (H .published); touched = length qs }
 
--- no table holds more than it has places for
+-- No table holds more than it has places for.
 pub record Within (M : Machine.State) : Type 0 where
   pub frames : Machine.places-of M .frames ≤ 4096
   pub bindings : Machine.places-of M .bindings ≤ 4096
@@ -138,9 +161,10 @@ pub record Within (M : Machine.State) : Type 0 where
   pub published : (s : ℕ) → count (Machine.sites-of M .published) s ≤ 128
   pub kept : (s : ℕ) → count (Machine.sites-of M .kept) s ≤ 256
 
--- whatever a run comes to is within the limits, if it started so
+-- A run from a state within the limits ends in one.
 abbrev pub StaysWithin : Type 0
 StaysWithin = (P : Program) (b : ℕ) (v : Works) (M : Machine.State) → Within M → Within (execute P b v M .end)
 
+-- A started machine is within the limits.
 abbrev pub StartsWithin : Type 0
 StartsWithin = (P : Program) → Within (Machine.started P)

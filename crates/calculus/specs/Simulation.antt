@@ -26,9 +26,23 @@ RunSimulation = (P : Program) → Ordered P → (v u : Works) (M L : Machine.Sta
 abbrev pub StartMeans : Type 0
 StartMeans = (P : Program) → network-of P (Machine.started P) ≡ started (P .sheet) (P .start) (main P)
 
+-- A state of a program of type A: it means a typed network.
+abbrev pub StateTyped : Program → Ty → Machine.State → Type 0
+StateTyped P A M = (Σ : Entries) × NetworkTyped (setup P A) Σ (network-of P M)
+
+-- A started program of type A is in such a state, each step leads to one again, and in such a state the machine is done, or it
+-- steps or meets a silent register.
+pub record StatesTyped (P : Program) (A : Ty) : Type 0 where
+  pub start : WellTyped P A → StateTyped P A (Machine.started P)
+  pub step : (v u : Works) (M L : Machine.State) (e : Event) → StateTyped P A M → Machine.step P v M ≡ Machine.stepped L u e → StateTyped P A L
+  pub moves : (v : Works) (M : Machine.State) → Agrees (P .sheet) v → StateTyped P A M → (Machine.is-done M ≡ true) ⊎ Machine.Moves (Machine.step P v M)
+
+abbrev pub StatesStand : Type 0
+StatesStand = (P : Program) (A : Ty) → Ordered P → StatesTyped P A
+
 -- Whatever a started machine of a typed program comes to means a typed network, and it is done, or it steps or meets a silent
 -- register.
 abbrev pub MachineSafety : Type 0
 MachineSafety = (P : Program) → Ordered P → (A : Ty) (v u : Works) (n : ℕ) (es : List Event) (M : Machine.State) →
     WellTyped P A → Agrees (P .sheet) v → Machine.Run P v (Machine.started P) n es u M →
-    ((Σ : Entries) × NetworkTyped (setup P A) Σ (network-of P M)) × AtHome es × ((Machine.is-done M ≡ true) ⊎ Machine.Moves (Machine.step P u M))
+    StateTyped P A M × AtHome es × ((Machine.is-done M ≡ true) ⊎ Machine.Moves (Machine.step P u M))

@@ -1,7 +1,7 @@
 ghost use Rattle.calculus.specs.Theorems.{Substitution, Progress, Stepping, Preservation, SilentHere, SheetStays, StartTyped, RunKeeps, Safety, AnswerTyped};
-ghost use Rattle.calculus.specs.Simulation.{Simulation, RunSimulation, StartMeans, MachineSafety};
+ghost use Rattle.calculus.specs.Simulation.{Simulation, RunSimulation, StartMeans, StatesStand, MachineSafety};
 ghost use Rattle.calculus.specs.Checker.{CheckDecides, JudgeRecurs, TypeRecurs};
-ghost use Rattle.calculus.specs.Run.{ExecuteCounts, NeverBroken, StaysWithin, StartsWithin};
+ghost use Rattle.calculus.specs.Run.{ExecuteCounts, NeverBroken, StaysWithin, StartsWithin, TouchedOnce};
 ghost use Rattle.calculus.specs.Law.{LogLaw, LineStands, RunSettled};
 
 // A typed binding put in keeps types.
@@ -43,6 +43,7 @@ pub fn simulation_stands() -> u8
     ensures step { λ _. ⌜ Simulation ⌝ }
     ensures run { λ _. ⌜ RunSimulation ⌝ }
     ensures start { λ _. ⌜ StartMeans ⌝ }
+    ensures states { λ _. ⌜ StatesStand ⌝ }
     ensures safe { λ _. ⌜ MachineSafety ⌝ }
 {
     0
@@ -57,12 +58,13 @@ pub fn checking_decides() -> u8
     0
 }
 
-// Runs count their steps, stop for the reason that they give, and stay within the limits.
+// Runs count their steps, stop for the reason that they give, stay within the limits, and mark each register touched once.
 pub fn runs_stand() -> u8
     ensures counts { λ _. ⌜ ExecuteCounts ⌝ }
     ensures whole { λ _. ⌜ NeverBroken ⌝ }
     ensures within { λ _. ⌜ StaysWithin ⌝ }
     ensures start { λ _. ⌜ StartsWithin ⌝ }
+    ensures touched { λ _. ⌜ TouchedOnce ⌝ }
 {
     0
 }

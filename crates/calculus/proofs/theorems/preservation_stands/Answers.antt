@@ -1,4 +1,5 @@
-use Rattle.calculus.proofs.Preservation.{preservation, agrees-after}
+use Rattle.calculus.proofs.Preservation.{preservation}
+use Rattle.calculus.proofs.Effects.{agrees-after}
 use Rattle.calculus.proofs.Safety.{silent-holds, run-keeps}
 use Rattle.calculus.proofs.theorems.preservation_stands.Needs as need
 
