@@ -12,6 +12,7 @@ use Rattle.syntax.specs.Reading.{Seen, read}
 use Rattle.syntax.specs.Reading.Outcome.{done, refused}
 use Rattle.syntax.specs.Texts.{Text, shown, Digits, valued}
 use Rattle.syntax.specs.Trees.{Prog, Right, Limits, Tables, print, table, tables, Each, deep, terms, types}
+use Rattle.syntax.specs.Sound.{Sound}
 use Rattle.syntax.specs.declared.grammar.Sort.the-variants.{First}
 
 -- refusal 11 at p over bs: some text begins with the bytes before p, and none with the byte at p too;
@@ -55,6 +56,10 @@ Read-right = (bs : List ℕ) (s : Seen) → read bs ≡ done s → (p : Prog) ×
 -- the text of every program that keeps the limits is read, to that program's tables
 abbrev pub Read-all : Type 0
 Read-all = (bs : List ℕ) (p : Prog) → Texts bs p → read bs ≡ done (whole p)
+
+-- the tables that are read lead nowhere but to rows that are there, and keep the limits
+abbrev pub Read-sound : Type 0
+Read-sound = (bs : List ℕ) (s : Seen) → read bs ≡ done s → Sound (tables s)
 
 -- bytes are the text of one program at most
 abbrev pub Read-one : Type 0

@@ -1,4 +1,4 @@
-ghost use Rattle.syntax.specs.Promises.{Refused-right, Refused-all, Accepted-right, Read-right, Read-all, Read-one, Restored, Deep-right, Limit-right, Doomed-right, Sheet-right};
+ghost use Rattle.syntax.specs.Promises.{Refused-right, Refused-all, Accepted-right, Read-right, Read-all, Read-sound, Read-one, Restored, Deep-right, Limit-right, Doomed-right, Sheet-right};
 
 // The theorems of reading.
 pub fn reading_stands() -> u8
@@ -7,6 +7,7 @@ pub fn reading_stands() -> u8
     ensures accepted { λ _. ⌜ Accepted-right ⌝ }
     ensures right { λ _. ⌜ Read-right ⌝ }
     ensures all { λ _. ⌜ Read-all ⌝ }
+    ensures sound { λ _. ⌜ Read-sound ⌝ }
     ensures one { λ _. ⌜ Read-one ⌝ }
     ensures restored { λ _. ⌜ Restored ⌝ }
     ensures deep { λ _. ⌜ Deep-right ⌝ }
