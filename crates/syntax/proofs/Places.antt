@@ -24,7 +24,7 @@ use Rattle.syntax.specs.declared.grammar.Form.the-variants.{TNum, Bound, Val, 
 use Rattle.syntax.specs.declared.grammar.Sort.{Sort}
 use Rattle.syntax.specs.declared.grammar.Sort.the-variants.{Types, Worlds, Terms, First, Further}
 use Rattle.syntax.proofs.Steps.{go-cons, moved}
-use Rattle.syntax.proofs.Theory.{Follows, takes}
+use Rattle.syntax.proofs.Theory.{Follows, takes, beyond}
 use Rattle.syntax.proofs.Sound.{Plain, Fine, Sound, step-sound, plain-wants}
 
 -- the shortest item of each sort
@@ -76,14 +76,14 @@ step-on c bs ws vs s s′ i p e back r =
     record {
       before = c ∷ r .before; after = r .after; split = ap (λ x. c ∷ x) (r .split); place = omega (arith, r .place);
       text = t .0; more = r .more; alive = t .1 ∙ ap (λ x. c ∷ x) (r .alive);
-      dead = λ d x y q u h. let f = subst (λ (m : Move). Follows m (r .before ++ d ∷ y)) e (takes u s i c (r .before ++ d ∷ y) h) in r .dead d x y q (f .0) (f .1);
-      short = λ q u h. let f = subst (λ (m : Move). Follows m (r .before)) e (takes u s i c (r .before) h) in r .short q (f .0) (f .1) }
+      dead = λ d x y q u h. let f = subst (λ (m : Move). Follows (λ x. beyond x u i) i m (r .before ++ d ∷ y)) e (takes u s i c (r .before ++ d ∷ y) h) in r .dead d x y q (f .0) (f .1);
+      short = λ q u h. let f = subst (λ (m : Move). Follows (λ x. beyond x u i) i m (r .before)) e (takes u s i c (r .before) h) in r .short q (f .0) (f .1) }
 
 step-off : (c : ℕ) (bs : List ℕ) (ws : List Want) (s : Seen) (i p q : ℕ) → Fine ws → step ws s i c ≡ off 11 q → p ≡ i → Place (c ∷ bs) ws i p
 step-off c bs ws s i p q f e k = stuck (c ∷ bs) ws i p f k (λ d x y g t h.
     let z : d ≡ c = cc in
     let h′ : shown t ≡ c ∷ y = h ∙ ap (λ w. w ∷ y) z in
-    subst (λ (m : Move). Follows m y) e (takes t s i c y h′) refl)
+    subst (λ (m : Move). Follows (λ x. beyond x t i) i m y) e (takes t s i c y h′) refl)
   (λ q t h. let z : _≡_ {A = ℕ} 0 1 = cc in omega arith)
 
 pub refused-at : (bs : List ℕ) (ws : List Want) (s : Seen) (i p : ℕ) → Fine ws → go bs ws s i ≡ refused 11 p → Place bs ws i p

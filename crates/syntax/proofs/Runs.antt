@@ -98,7 +98,7 @@ counted-up : (k : Bool) (v w : ℕ) → v ≤ w → counted k v ≡ true → cou
 counted-up true v w h e f = omega (arith, ltb-true 32 v e, ltb-false 32 w f)
 counted-up false v w h e f = both-ways false refl e
 
-small : (k : Bool) (v : ℕ) → v ≤ 9 → counted k v ≡ false
+pub small : (k : Bool) (v : ℕ) → v ≤ 9 → counted k v ≡ false
 small true v h = le-ltb 32 v (omega arith)
 small false v h = refl
 

@@ -57,7 +57,7 @@ plain-fine (digits k q v a ∷ ws) p = absurd p
 plain-fine (item o ∷ ws) p = p
 plain-fine (word o ks ∷ ws) p = absurd p
 
-plain-next : (f : Form) (ws : List Want) → Plain ws → Plain (row f .next ++ ws)
+pub plain-next : (f : Form) (ws : List Want) → Plain ws → Plain (row f .next ++ ws)
 plain-next TNum ws p = p
 plain-next TNone ws p = p
 plain-next TFn ws p = p

@@ -69,25 +69,6 @@ Read-one = (bs : List ℕ) (p q : Prog) → Right p → Right q → print p ≡ 
 abbrev pub Restored : Type 0
 Restored = (bs : List ℕ) (s : Seen) → read bs ≡ done s → (p : Prog) × ((tables s ≡ table p) × (print p ≡ bs) × (read (print p) ≡ done s))
 
--- how often a byte stands in a text
-abbrev pub tally : ℕ → List ℕ → ℕ
-tally b [] = 0
-tally b (c ∷ bs) = cond (eqb c b) 1 0 + tally b bs
-
--- refusal 12 at p over bs: a bracket stands there, as one can in some text, and 64 brackets are open before it
-pub record Deep (bs : List ℕ) (p : ℕ) : Type 0 where
-  pub before : List ℕ
-  pub after : List ℕ
-  pub split : bs ≡ before ++ 40 ∷ after
-  pub place : p ≡ length before
-  pub inside : tally 40 before ≡ tally 41 before + 64
-  pub text : Text (item First ∷ [])
-  pub more : List ℕ
-  pub alive : shown text ≡ before ++ 40 ∷ more
-
-abbrev pub Deep-right : Type 0
-Deep-right = (bs : List ℕ) (p : ℕ) → read bs ≡ refused 12 p → Deep bs p
-
 -- the program breaks the limit that the refusal n is for
 pub data Broken (p : Prog) : ℕ → Type 0 where
   long-broken : (length (print p) ≤ 65536 → ⊥) → Broken p 10

@@ -1,4 +1,4 @@
-ghost use Rattle.syntax.specs.Promises.{Refused-right, Refused-all, Accepted-right, Read-right, Read-all, Read-sound, Read-one, Restored, Deep-right, Limit-right, Doomed-right, Sheet-right};
+ghost use Rattle.syntax.specs.Promises.{Refused-right, Refused-all, Accepted-right, Read-right, Read-all, Read-sound, Read-one, Restored, Limit-right, Doomed-right, Sheet-right};
 
 // The theorems of reading.
 pub fn reading_stands() -> u8
@@ -10,7 +10,6 @@ pub fn reading_stands() -> u8
     ensures sound { λ _. ⌜ Read-sound ⌝ }
     ensures one { λ _. ⌜ Read-one ⌝ }
     ensures restored { λ _. ⌜ Restored ⌝ }
-    ensures deep { λ _. ⌜ Deep-right ⌝ }
     ensures limit { λ _. ⌜ Limit-right ⌝ }
     ensures doomed { λ _. ⌜ Doomed-right ⌝ }
     ensures sheet { λ _. ⌜ Sheet-right ⌝ }
