@@ -102,7 +102,7 @@ pub plain-wants : (f : Form) (ws : List Want) → Plain ws → Plain (wants f ws
 plain-wants f ws p = plain-shut f (parts f) (row f .next ++ ws) (plain-next f ws p)
 
 -- words of two bytes and more, of one byte and more
-abbrev Wide : List (List ℕ × Form) → Type 0
+abbrev pub Wide : List (List ℕ × Form) → Type 0
 Wide [] = Unit {0}
 Wide (([], f) ∷ ks) = ⊥
 Wide ((b ∷ [], f) ∷ ks) = ⊥
@@ -115,12 +115,12 @@ wide Terms = tt
 wide First = tt
 wide Further = tt
 
-abbrev Whole : List (List ℕ × Form) → Type 0
+abbrev pub Whole : List (List ℕ × Form) → Type 0
 Whole [] = Unit {0}
 Whole (([], f) ∷ ks) = ⊥
 Whole ((b ∷ w, f) ∷ ks) = Whole ks
 
-wide-after : (c : ℕ) (ks : List (List ℕ × Form)) → Wide ks → Whole (after c ks)
+pub wide-after : (c : ℕ) (ks : List (List ℕ × Form)) → Wide ks → Whole (after c ks)
 wide-after c [] h = tt
 wide-after c (([], f) ∷ ks) h = absurd h
 wide-after c ((b ∷ [], f) ∷ ks) h = absurd h
