@@ -161,7 +161,7 @@ tidy Below = (refl, refl)
 tidy Station = (refl, refl)
 tidy Run = (refl, refl)
 
-not-open : (a : Stop) → eqb (byte a) 40 ≡ false
+pub not-open : (a : Stop) → eqb (byte a) 40 ≡ false
 not-open space = refl
 not-open line = refl
 not-open (close TNum) = refl
@@ -260,7 +260,7 @@ at-stop a ws s c w p e z d q =
     let k = passed-depth a s (closers ws) (sym e ∙ d) in
     (pp .1, sym k, omega (arith, pp .0, n0, n1, e, z), λ h. omega (arith, pp .0, k, e, d, h))
 
-no-bracket : (c : ℕ) → digit c ≡ true → (is 40 c ≡ 0) × (is 41 c ≡ 0)
+pub no-bracket : (c : ℕ) → digit c ≡ true → (is 40 c ≡ 0) × (is 41 c ≡ 0)
 no-bracket c h =
     let z = and-parts (leb 48 c) (leb c 57) h in
     let y = leb-true 48 c (z .0) in

@@ -141,7 +141,7 @@ pub record Longer (a b r : List ℕ) : Type 0 where
 grow : (c e : ℕ) (a b r : List ℕ) → c ≡ e → Longer a b r → Longer (c ∷ a) (e ∷ b) r
 grow c e a b r q l = record { d = l .d; x = l .x; y = l .y; rest = l .rest; is = ap (λ (z : ℕ). z ∷ b) (sym q) ∙ ap (λ (z : List ℕ). c ∷ z) (l .is) }
 
-splits : (a r b q : List ℕ) → a ++ r ≡ b ++ q → (a ≡ b) ⊎ (Longer a b r ⊎ Longer b a q)
+pub splits : (a r b q : List ℕ) → a ++ r ≡ b ++ q → (a ≡ b) ⊎ (Longer a b r ⊎ Longer b a q)
 splits [] r [] q e = inl refl
 splits [] r (d ∷ b) q e = inr (inl (record { d = d; x = b ++ q; y = b; rest = e; is = refl }))
 splits (d ∷ a) r [] q e = inr (inr (record { d = d; x = a ++ r; y = a; rest = sym e; is = refl }))
@@ -157,13 +157,13 @@ apart-places bs ws i p q P Q l =
     P .dead (l .d) (l .x) (l .y ++ Q .more) (l .rest) (Q .text)
       (Q .alive ∙ ap (λ (z : List ℕ). z ++ Q .more) (l .is) ∙ append-assoc (P .before) (l .d ∷ l .y) (Q .more))
 
-one-place : (bs : List ℕ) (ws : List Want) (i p q : ℕ) → Place bs ws i p → Place bs ws i q → p ≡ q
+pub one-place : (bs : List ℕ) (ws : List Want) (i p q : ℕ) → Place bs ws i p → Place bs ws i q → p ≡ q
 one-place bs ws i p q P Q =
     ⊎-elim (λ (e : P .before ≡ Q .before). P .place ∙ ap (λ (z : List ℕ). i + length z) e ∙ sym (Q .place))
       (⊎-elim (λ (l : Longer (P .before) (Q .before) (P .after)). absurd (apart-places bs ws i p q P Q l)) (λ (l : Longer (Q .before) (P .before) (Q .after)). absurd (apart-places bs ws i q p Q P l)))
       (splits (P .before) (P .after) (Q .before) (Q .after) (sym (P .split) ∙ Q .split))
 
-not-done : (bs : List ℕ) (ws : List Want) (i p : ℕ) (P : Place bs ws i p) (t : Text ws) → shown t ≡ bs → ⊥
+pub not-done : (bs : List ℕ) (ws : List Want) (i p : ℕ) (P : Place bs ws i p) (t : Text ws) → shown t ≡ bs → ⊥
 not-done bs ws i p P t e = at (P .after) refl
   where
     at : (l : List ℕ) → P .after ≡ l → ⊥
