@@ -27,9 +27,10 @@ use Rattle.syntax.specs.declared.grammar.Sort.the-variants.{Types, Worlds, Ter
 use Rattle.syntax.proofs.Steps.{go-cons, moved, number-some, digits-sheet, digits-on}
 use Rattle.syntax.proofs.Theory.{Follows, takes, mark, beyond, places-first, no-digit, valued-ge}
 use Rattle.syntax.proofs.Sound.{Plain, Fine}
-use Rattle.syntax.proofs.Places.{Longer, splits}
+use Rattle.syntax.proofs.Places.{Longer, splits, Place, not-done, one-place, refused-at, accepted}
+use Rattle.syntax.proofs.Refused.{Onward, goes-on, read-holds}
 use Rattle.syntax.proofs.Depths.{Inv, Clean, Neat, plain, closers, pend, not-open, no-bracket}
-use Rattle.syntax.proofs.Reach.{Reach, held, Comes, come}
+use Rattle.syntax.proofs.Reach.{Reach, held, Comes, come, Halt, halt}
 use Rattle.syntax.proofs.Reach.Comes.{stops, comes}
 use Rattle.syntax.proofs.Begun.{both-lines, Lined}
 use Rattle.syntax.proofs.Ways.{Way, way, Sized, Below}
@@ -326,3 +327,28 @@ count-law bs q n ds g l x h = by (come (x .before) (ds ++ x .after) bs (x .split
 sheet-law : (bs : List ℕ) (q : ℕ) → Sheeted bs q → Sooner bs 14 q
 sheet-law bs q (a-line x h) = line-law bs q x h
 sheet-law bs q (a-count ds g l x n h) = count-law bs q n ds g l x h
+
+-- no text goes on so
+place : (bs : List ℕ) (q : ℕ) → Wrong bs q → Place bs (item First ∷ []) 0 q
+place bs q w = record { before = w .before; after = w .after; split = w .split; place = omega (arith, w .place); text = w .text; more = w .more; alive = w .alive; dead = w .dead; short = w .short }
+
+wrong-law : (bs : List ℕ) (q : ℕ) → Wrong bs q → Sooner bs 11 q
+wrong-law bs q w = at (go bs (item First ∷ []) start-none 0) refl
+  where
+    later : (n p : ℕ) (h : Halt bs n p) → Onward (h .before) (h .wanted) (h .seen) (h .c) → p < q
+    later n p h o = ⊎-elim
+        (λ (e : w .before ≡ h .before ++ h .c ∷ []). omega (arith, h .low, w .place, ap (λ (x : List ℕ). length x) e, length-push (h .before) (h .c)))
+        (⊎-elim
+          (λ (l : Longer (w .before) (h .before ++ h .c ∷ []) (w .after)). absurd (w .dead (l .d) (l .x) (l .y ++ o .more) (l .rest) (o .text)
+            (o .alive ∙ sym (append-assoc (h .before) (h .c ∷ []) (o .more)) ∙ ap (λ (x : List ℕ). x ++ o .more) (l .is) ∙ append-assoc (w .before) (l .d ∷ l .y) (o .more))))
+          (λ (l : Longer (h .before ++ h .c ∷ []) (w .before) (h .after)).
+            let e : length (w .before) ≡ length (h .before ++ h .c ∷ []) + length (l .d ∷ l .y) = ap (λ (x : List ℕ). length x) (l .is) ∙ length-append (h .before ++ h .c ∷ []) (l .d ∷ l .y) in
+            omega (arith, h .low, w .place, e, length-push (h .before) (h .c))))
+        (splits (w .before) (w .after) (h .before ++ h .c ∷ []) (h .after) (sym (w .split) ∙ h .split ∙ sym (append-assoc (h .before) (h .c ∷ []) (h .after))))
+    at : (o : Outcome) → go bs (item First ∷ []) start-none 0 ≡ o → Sooner bs 11 q
+    at (done s) e = let a = accepted bs (item First ∷ []) start-none 0 s tt e in absurd (not-done bs (item First ∷ []) 0 q (place bs q w) (a .0) (a .1))
+    at (refused n p) e = ⊎-elim
+        (λ (z : n ≡ 11). record { n = n; p = p; answer = e;
+          order = inr (one-place bs (item First ∷ []) 0 p q (refused-at bs (item First ∷ []) start-none 0 p tt (e ∙ ap (λ (x : ℕ). refused x p) z)) (place bs q w), omega arith) })
+        (λ (z : n ≡ 11 → ⊥). let h = halt bs n p z e in record { n = n; p = p; answer = e; order = inl (later n p h (goes-on (h .before) (h .c) (h .seen) (h .found) (h .reach) z)) })
+        (cases-eq n 11)

@@ -11,7 +11,7 @@ use Rattle.syntax.specs.Reading.{Seen, Move, Outcome, go, step, over}
 use Rattle.syntax.specs.Reading.Move.{on, off}
 use Rattle.syntax.specs.Reading.Outcome.{done, refused}
 use Rattle.syntax.specs.Texts.{Text, shown}
-use Rattle.syntax.specs.Promises.{Place, Refused-right, Refused-all, Accepted-right}
+use Rattle.syntax.specs.Promises.{Accepted-right}
 use mathlib.Core.Logic.{_⊎_, inl, inr, ⊎-elim}
 use Rattle.std.proofs.shelf.Lists.{append-assoc, append-nil, length-append}
 use Rattle.syntax.specs.Reading.{start-none, read}
@@ -26,6 +26,19 @@ use Rattle.syntax.specs.declared.grammar.Sort.the-variants.{Types, Worlds, Ter
 use Rattle.syntax.proofs.Steps.{go-cons, moved}
 use Rattle.syntax.proofs.Theory.{Follows, takes, beyond}
 use Rattle.syntax.proofs.Sound.{Plain, Fine, Sound, step-sound, plain-wants}
+
+-- refusal 11 at p over bs: some text begins with the bytes before p, and none with the byte at p too;
+-- where the bytes end there, they are no text
+pub record Place (bs : List ℕ) (ws : List Want) (i p : ℕ) : Type 0 where
+  pub before : List ℕ
+  pub after : List ℕ
+  pub split : bs ≡ before ++ after
+  pub place : p ≡ i + length before
+  pub text : Text ws
+  pub more : List ℕ
+  pub alive : shown text ≡ before ++ more
+  pub dead : (d : ℕ) (x y : List ℕ) → after ≡ d ∷ x → (t : Text ws) → shown t ≡ before ++ d ∷ y → ⊥
+  pub short : after ≡ [] → (t : Text ws) → shown t ≡ before → ⊥
 
 -- the shortest item of each sort
 term : {ws : List Want} → Text ws → Text (item Terms ∷ ws)
@@ -116,16 +129,9 @@ accepted (c ∷ bs) ws s i s′ f h = at (step ws s i c) (step-sound ws s i c f)
     at (on vs u) g k r = let a = r vs u (g .0) k in let b = g .1 (a .0) in (b .0, b .1 ∙ ap (λ x. c ∷ x) (a .1))
     at (off n q) g k r = absurd (let z : _≡_ {A = ℕ} 0 1 = cc in omega arith)
 
-short-refused : (b : Bool) (o : Outcome) (p : ℕ) → cond b (refused 10 65536) o ≡ refused 11 p → o ≡ refused 11 p
-short-refused true o p e = absurd (let z : _≡_ {A = ℕ} 10 11 = cc in omega arith)
-short-refused false o p e = e
-
 pub short-done : (b : Bool) (o : Outcome) (s : Seen) → cond b (refused 10 65536) o ≡ done s → o ≡ done s
 short-done true o s e = absurd (let z : _≡_ {A = ℕ} 0 1 = cc in omega arith)
 short-done false o s e = e
-
-pub refused-right : Refused-right
-refused-right bs p e = refused-at bs (item First ∷ []) start-none 0 p tt (short-refused (ltb 65536 (length bs)) _ p e)
 
 pub accepted-right : Accepted-right
 accepted-right bs s e = accepted bs (item First ∷ []) start-none 0 s tt (short-done (ltb 65536 (length bs)) _ s e)
@@ -169,17 +175,3 @@ not-done bs ws i p P t e = at (P .after) refl
     at : (l : List ℕ) → P .after ≡ l → ⊥
     at [] q = P .short q t (e ∙ P .split ∙ ap (λ (z : List ℕ). P .before ++ z) q ∙ append-nil (P .before))
     at (d ∷ x) q = P .dead d x x q t (e ∙ P .split ∙ ap (λ (z : List ℕ). P .before ++ z) q)
-
-eleven : (n : ℕ) → (n ≡ 11) ⊎ (n ≡ 11 → ⊥)
-eleven n = cases-eq n 11
-
-pub refused-all : Refused-all
-refused-all bs p P = at (read bs) refl
-  where
-    at : (o : Outcome) → read bs ≡ o → (read bs ≡ refused 11 p) ⊎ ((n : ℕ) × ((q : ℕ) × ((read bs ≡ refused n q) × (n ≡ 11 → ⊥))))
-    at (done s) e = let a = accepted-right bs s e in absurd (not-done bs (item First ∷ []) 0 p P (a .0) (a .1))
-    at (refused n q) e = ⊎-elim
-      (λ (z : n ≡ 11). let e′ : read bs ≡ refused 11 q = e ∙ ap (λ (x : ℕ). refused x q) z in
-        inl (e′ ∙ ap (λ (x : ℕ). refused 11 x) (one-place bs (item First ∷ []) 0 q p (refused-right bs q e′) P)))
-      (λ (z : n ≡ 11 → ⊥). inr (n, (q, (e, z))))
-      (eleven n)

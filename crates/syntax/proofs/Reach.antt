@@ -196,6 +196,7 @@ pub record Halt (bs : List ℕ) (n p : ℕ) : Type 0 where
   pub seen : Seen
   pub reach : Reach before wanted seen
   pub found : Stepped seen (length before) c wanted (off n p)
+  pub low : p ≤ length before
 
 halt-from : (bs before : List ℕ) (ws : List Want) (s : Seen) (n p : ℕ) → (n ≡ 11 → ⊥) → Reach before ws s → go bs ws s (length before) ≡ refused n p → Halt (before ++ bs) n p
 unfolding go
@@ -205,15 +206,15 @@ halt-from [] before ws s n p z r e = at ws e
     at [] h = absurd (let y : _≡_ {A = ℕ} 0 1 = cc in omega arith)
     at (w ∷ vs) h = absurd (z (let y : n ≡ 11 = cc in y))
 halt-from (c ∷ bs) before ws s n p z r e =
-    at (step ws s (length before) c) refl (step-is s (length before) c ws) (sym (go-cons c bs ws s (length before)) ∙ e) (λ vs q r′ e′. halt-from bs (before ++ c ∷ []) vs q n p z r′ e′)
+    at (step ws s (length before) c) refl (step-is s (length before) c ws) (half-step before s c (step-is s (length before) c ws) (held r .fine) (halved r)) (sym (go-cons c bs ws s (length before)) ∙ e) (λ vs q r′ e′. halt-from bs (before ++ c ∷ []) vs q n p z r′ e′)
   where
-    at : (m : Move) → step ws s (length before) c ≡ m → Stepped s (length before) c ws m → moved bs (length before) m ≡ refused n p →
+    at : (m : Move) → step ws s (length before) c ≡ m → Stepped s (length before) c ws m → Halves before c m → moved bs (length before) m ≡ refused n p →
       ((vs : List Want) (q : Seen) → Reach (before ++ c ∷ []) vs q → go bs vs q (length (before ++ c ∷ [])) ≡ refused n p → Halt ((before ++ c ∷ []) ++ bs) n p) → Halt (before ++ c ∷ bs) n p
-    at (on vs q) h g f k = subst (λ (x : List ℕ). Halt x n p) (append-assoc before (c ∷ []) bs) (k vs q (next r c vs q h) (ap (go bs vs q) (length-push before c) ∙ f))
-    at (off m q) h g f k =
+    at (on vs q) h g low f k = subst (λ (x : List ℕ). Halt x n p) (append-assoc before (c ∷ []) bs) (k vs q (next r c vs q h) (ap (go bs vs q) (length-push before c) ∙ f))
+    at (off m q) h g low f k =
         let y : m ≡ n = cc in
         let x : q ≡ p = cc in
-        record { before = before; c = c; after = bs; split = refl; wanted = ws; seen = s; reach = r;
+        record { before = before; c = c; after = bs; split = refl; wanted = ws; seen = s; reach = r; low = subst (λ (j : ℕ). j ≤ length before) x low;
           found = subst (λ (j : ℕ). Stepped s (length before) c ws (off n j)) x (subst (λ (j : ℕ). Stepped s (length before) c ws (off j q)) y g) }
 
 pub halt : (bs : List ℕ) (n p : ℕ) → (n ≡ 11 → ⊥) → go bs (item First ∷ []) start-none 0 ≡ refused n p → Halt bs n p

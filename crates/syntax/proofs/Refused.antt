@@ -141,6 +141,27 @@ module _ (before after : List ℕ) (c : ℕ) (s : Seen) where
   step-holds (letter b w f l e g) r = tt
   step-holds (crowded {o} {ks} {ws} b w f l e g) r = λ z. line-holds o ks ws b w f l r e g
 
+-- a limit's refusal stands where a text goes on
+module _ (before : List ℕ) (c : ℕ) (s : Seen) where
+  abbrev Onwards : List Want → Move → Type 0
+  Onwards ws (on vs q) = Unit {0}
+  Onwards ws (off n p) = (n ≡ 11 → ⊥) → Onward before ws s c
+
+  pub goes-on : {ws : List Want} {m : Move} → Stepped s (length before) c ws m → Reach before ws s → Onwards ws m
+  goes-on wrong r = λ z. absurd (z refl)
+  goes-on (stopped e) r = tt
+  goes-on (zeroed e) r = tt
+  goes-on (digited e n) r = tt
+  goes-on (numbered e) r = tt
+  goes-on (longer e l n) r = tt
+  goes-on (passes {k} {j} {v} {a} {ws} e l n) r = λ z. let u = plain-text ws (held r .fine .1) in onward r c (rest k j v a (c ∷ []) (e, tt) l u, (byte a ∷ shown u, refl))
+  goes-on (deeper {o} {ws} x l e f g) r = λ z. onward r c (item-goes o ws c x l (held r .fine) e)
+  goes-on (fuller {o} {ws} x l e f) r = λ z. onward r c (item-goes o ws c x l (held r .fine) e)
+  goes-on (started x l e f) r = tt
+  goes-on (whole f l e) r = tt
+  goes-on (letter b w f l e g) r = tt
+  goes-on (crowded {o} {ks} {ws} b w f l e g) r = λ z. onward r c (word-goes o ks ws c b w f l (held r .fine) e)
+
 limit-holds : (bs : List ℕ) (n p : ℕ) → (n ≡ 11 → ⊥) → go bs (item First ∷ []) start-none 0 ≡ refused n p → Holds bs n p
 limit-holds bs n p z e =
     let h = halt bs n p z e in

@@ -15,26 +15,7 @@ use Rattle.syntax.specs.Trees.{Prog, Right, Limits, Tables, print, table, tabl
 use Rattle.syntax.specs.Sound.{Sound}
 use Rattle.syntax.specs.declared.grammar.Sort.the-variants.{First}
 
--- refusal 11 at p over bs: some text begins with the bytes before p, and none with the byte at p too;
--- where the bytes end there, they are no text
-pub record Place (bs : List ℕ) (ws : List Want) (i p : ℕ) : Type 0 where
-  pub before : List ℕ
-  pub after : List ℕ
-  pub split : bs ≡ before ++ after
-  pub place : p ≡ i + length before
-  pub text : Text ws
-  pub more : List ℕ
-  pub alive : shown text ≡ before ++ more
-  pub dead : (d : ℕ) (x y : List ℕ) → after ≡ d ∷ x → (t : Text ws) → shown t ≡ before ++ d ∷ y → ⊥
-  pub short : after ≡ [] → (t : Text ws) → shown t ≡ before → ⊥
-
-abbrev pub Refused-right : Type 0
-Refused-right = (bs : List ℕ) (p : ℕ) → read bs ≡ refused 11 p → Place bs (item First ∷ []) 0 p
-
--- the converse: at such a place the answer is refusal 11 there, or a limit's refusal
-abbrev pub Refused-all : Type 0
-Refused-all = (bs : List ℕ) (p : ℕ) → Place bs (item First ∷ []) 0 p →
-  (read bs ≡ refused 11 p) ⊎ ((n : ℕ) × ((q : ℕ) × ((read bs ≡ refused n q) × (n ≡ 11 → ⊥))))
+use Rattle.syntax.specs.Refusals.{Given}
 
 abbrev pub Accepted-right : Type 0
 Accepted-right = (bs : List ℕ) (s : Seen) → read bs ≡ done s → (t : Text (item First ∷ [])) × (shown t ≡ bs)

@@ -1,9 +1,7 @@
-ghost use Rattle.syntax.specs.Promises.{Refused-right, Refused-all, Accepted-right, Read-right, Read-all, Read-sound, Read-one, Restored, Limit-right, Doomed-right, Sheet-right};
+ghost use Rattle.syntax.specs.Promises.{Accepted-right, Read-right, Read-all, Read-sound, Read-one, Restored, Limit-right, Doomed-right, Sheet-right};
 
 // The theorems of reading.
 pub fn reading_stands() -> u8
-    ensures refused { λ _. ⌜ Refused-right ⌝ }
-    ensures eleven { λ _. ⌜ Refused-all ⌝ }
     ensures accepted { λ _. ⌜ Accepted-right ⌝ }
     ensures right { λ _. ⌜ Read-right ⌝ }
     ensures all { λ _. ⌜ Read-all ⌝ }
