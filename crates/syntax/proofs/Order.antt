@@ -24,6 +24,7 @@ use Rattle.syntax.specs.Refusals.Holds.{too-long, no-text, too-deep, too-many,
 use Rattle.syntax.specs.declared.grammar.Form.{Form}
 use Rattle.syntax.specs.declared.grammar.Sort.{Sort}
 use Rattle.syntax.specs.declared.grammar.Sort.the-variants.{Types, Worlds, Terms, First, Further}
+use Rattle.syntax.specs.Promises.{Refused-exactly, Accepted-exactly}
 use Rattle.syntax.proofs.Steps.{go-cons, moved, number-some, digits-sheet, digits-on}
 use Rattle.syntax.proofs.Theory.{Follows, takes, mark, beyond, places-first, no-digit, valued-ge}
 use Rattle.syntax.proofs.Sound.{Plain, Fine}
@@ -352,3 +353,65 @@ wrong-law bs q w = at (go bs (item First ∷ []) start-none 0) refl
           order = inr (one-place bs (item First ∷ []) 0 p q (refused-at bs (item First ∷ []) start-none 0 p tt (e ∙ ap (λ (x : ℕ). refused x p) z)) (place bs q w), omega arith) })
         (λ (z : n ≡ 11 → ⊥). let h = halt bs n p z e in record { n = n; p = p; answer = e; order = inl (later n p h (goes-on (h .before) (h .c) (h .seen) (h .found) (h .reach) z)) })
         (cases-eq n 11)
+
+go-law : (bs : List ℕ) {m q : ℕ} → Holds bs m q → length bs ≤ 65536 → (m ≡ 10 → ⊥) × Sooner bs m q
+go-law bs (too-long h) l = absurd (omega arith)
+go-law bs (no-text {p} h) l = (omega arith, wrong-law bs p h)
+go-law bs (too-deep {p} h) l = (omega arith, deep-law bs p h)
+go-law bs (too-many {p} h) l = (omega arith, many-law bs p h)
+go-law bs (too-wide {p} h) l = (omega arith, sheet-law bs p h)
+
+-- what holds of the bytes has an answer that comes before it
+abbrev Answer : List ℕ → ℕ → ℕ → Type 0
+Answer bs m q = (n : ℕ) × ((p : ℕ) × ((read bs ≡ refused n p) × Before n p m q))
+
+answer : (bs : List ℕ) (m q : ℕ) → Holds bs m q → Answer bs m q
+answer bs m q h = by (ltb 65536 (length bs)) refl
+  where
+    by : (b : Bool) → ltb 65536 (length bs) ≡ b → Answer bs m q
+    by true e = (10, (65536, (ap (λ (t : Bool). cond t (refused 10 65536) (go bs (item First ∷ []) start-none 0)) e, inl refl)))
+    by false e =
+        let a = go-law bs h (ltb-false 65536 (length bs) e) in
+        (a .1 .n, (a .1 .p, (ap (λ (t : Bool). cond t (refused 10 65536) (go bs (item First ∷ []) start-none 0)) e ∙ a .1 .answer, inr (a .0, a .1 .order))))
+
+given : (bs : List ℕ) (n p : ℕ) → read bs ≡ refused n p → Given bs n p
+given bs n p e = record { holds = read-holds bs n p e; first = λ m q h.
+    let a = answer bs m q h in
+    let z : refused (a .0) (a .1 .0) ≡ refused n p = sym (a .1 .1 .0) ∙ e in
+    let x : a .0 ≡ n = cc in
+    let y : a .1 .0 ≡ p = cc in
+    subst (λ (j : ℕ). Before n j m q) y (subst (λ (j : ℕ). Before j (a .1 .0) m q) x (a .1 .1 .1)) }
+
+-- of two refusals that each come before the other one is the other
+ten : (bs : List ℕ) {n p : ℕ} → Holds bs n p → n ≡ 10 → p ≡ 65536
+ten bs (too-long h) e = refl
+ten bs (no-text h) e = absurd (omega arith)
+ten bs (too-deep h) e = absurd (omega arith)
+ten bs (too-many h) e = absurd (omega arith)
+ten bs (too-wide h) e = absurd (omega arith)
+
+same-given : (bs : List ℕ) (n p m q : ℕ) → Holds bs n p → Holds bs m q → Before n p m q → Before m q n p → (n ≡ m) × (p ≡ q)
+same-given bs n p m q h k (inl e) (inl f) = (omega arith, ten bs h e ∙ sym (ten bs k f))
+same-given bs n p m q h k (inl e) (inr f) = absurd (f .0 e)
+same-given bs n p m q h k (inr e) (inl f) = absurd (e .0 f)
+same-given bs n p m q h k (inr e) (inr f) = both (e .1) (f .1)
+  where
+    both : (p < q) ⊎ ((p ≡ q) × (n ≤ m)) → (q < p) ⊎ ((q ≡ p) × (m ≤ n)) → (n ≡ m) × (p ≡ q)
+    both (inl x) (inl y) = absurd (omega arith)
+    both (inl x) (inr y) = absurd (omega (arith, y .0))
+    both (inr x) (inl y) = absurd (omega (arith, x .0))
+    both (inr x) (inr y) = (omega (arith, x .1, y .1), x .0)
+
+pub refused-exactly : Refused-exactly
+refused-exactly bs n p = (λ e. given bs n p e, λ g.
+    let a = answer bs n p (g .holds) in
+    let h = read-holds bs (a .0) (a .1 .0) (a .1 .1 .0) in
+    let z = same-given bs n p (a .0) (a .1 .0) (g .holds) h (g .first (a .0) (a .1 .0) h) (a .1 .1 .1) in
+    a .1 .1 .0 ∙ ap (λ (x : ℕ). refused x (a .1 .0)) (sym (z .0)) ∙ ap (refused n) (sym (z .1)))
+
+pub accepted-exactly : Accepted-exactly
+accepted-exactly bs = (λ s e n p h. let a = answer bs n p h in let z : done s ≡ refused (a .0) (a .1 .0) = sym e ∙ a .1 .1 .0 in let y : _≡_ {A = ℕ} 0 1 = cc in omega arith, λ none. by none (read bs) refl)
+  where
+    by : ((n p : ℕ) → Holds bs n p → ⊥) → (o : Outcome) → read bs ≡ o → (s : Seen) × (read bs ≡ done s)
+    by none (done s) e = (s, e)
+    by none (refused n p) e = absurd (none n p (read-holds bs n p e))

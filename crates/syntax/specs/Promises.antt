@@ -12,10 +12,17 @@ use Rattle.syntax.specs.Reading.{Seen, read}
 use Rattle.syntax.specs.Reading.Outcome.{done, refused}
 use Rattle.syntax.specs.Texts.{Text, shown, Digits, valued}
 use Rattle.syntax.specs.Trees.{Prog, Right, Limits, Tables, print, table, tables, Each, deep, terms, types}
+use Rattle.syntax.specs.Refusals.{Holds, Given}
 use Rattle.syntax.specs.Sound.{Sound}
 use Rattle.syntax.specs.declared.grammar.Sort.the-variants.{First}
 
-use Rattle.syntax.specs.Refusals.{Given}
+-- A text is refused by n at p exactly if that refusal holds of it and comes before all others that hold.
+abbrev pub Refused-exactly : Type 0
+Refused-exactly = (bs : List ℕ) (n p : ℕ) → (read bs ≡ refused n p → Given bs n p) × (Given bs n p → read bs ≡ refused n p)
+
+-- A text is read exactly if no refusal holds of it.
+abbrev pub Accepted-exactly : Type 0
+Accepted-exactly = (bs : List ℕ) → ((s : Seen) → read bs ≡ done s → (n p : ℕ) → Holds bs n p → ⊥) × (((n p : ℕ) → Holds bs n p → ⊥) → (s : Seen) × (read bs ≡ done s))
 
 abbrev pub Accepted-right : Type 0
 Accepted-right = (bs : List ℕ) (s : Seen) → read bs ≡ done s → (t : Text (item First ∷ [])) × (shown t ≡ bs)
@@ -60,28 +67,3 @@ pub data Broken (p : Prog) : ℕ → Type 0 where
 -- the text of a program is refused only by the number of a limit that it breaks
 abbrev pub Limit-right : Type 0
 Limit-right = (bs : List ℕ) (p : Prog) → Right p → print p ≡ bs → (n q : ℕ) → read bs ≡ refused n q → Broken p n
-
--- refusals 12, 13 and 14 over bs: some program's text begins with the bytes up to one of them, which for 12 and 13 stands at p,
--- and every program whose text begins so breaks that limit
-pub record Doomed (bs : List ℕ) (n p : ℕ) : Type 0 where
-  pub before : List ℕ
-  pub c : ℕ
-  pub after : List ℕ
-  pub split : bs ≡ before ++ c ∷ after
-  pub place : (n ≡ 14 → ⊥) → p ≡ length before
-  pub some : Prog
-  pub right : Right some
-  pub more : List ℕ
-  pub alive : print some ≡ before ++ c ∷ more
-  pub every : (q : Prog) → Right q → (y : List ℕ) → print q ≡ before ++ c ∷ y → Broken q n
-
-abbrev pub Doomed-right : Type 0
-Doomed-right = (bs : List ℕ) (n p : ℕ) → (n ≡ 10 → ⊥) → (n ≡ 11 → ⊥) → read bs ≡ refused n p → Doomed bs n p
-
--- refusal 14 at p over bs: a line there begins "(s", or digits begin there that pass 32
-pub data Sheeted (bs : List ℕ) (p : ℕ) : Type 0 where
-  a-line : (before after : List ℕ) → bs ≡ before ++ 40 ∷ 115 ∷ after → p ≡ length before → Sheeted bs p
-  a-count : (before ds after : List ℕ) → bs ≡ before ++ (ds ++ after) → p ≡ length before → Digits ds → 32 < valued 0 ds → Sheeted bs p
-
-abbrev pub Sheet-right : Type 0
-Sheet-right = (bs : List ℕ) (p : ℕ) → read bs ≡ refused 14 p → Sheeted bs p

@@ -1,7 +1,9 @@
-ghost use Rattle.syntax.specs.Promises.{Accepted-right, Read-right, Read-all, Read-sound, Read-one, Restored, Limit-right, Doomed-right, Sheet-right};
+ghost use Rattle.syntax.specs.Promises.{Refused-exactly, Accepted-exactly, Accepted-right, Read-right, Read-all, Read-sound, Read-one, Restored, Limit-right};
 
 // The theorems of reading.
 pub fn reading_stands() -> u8
+    ensures refused { λ _. ⌜ Refused-exactly ⌝ }
+    ensures unrefused { λ _. ⌜ Accepted-exactly ⌝ }
     ensures accepted { λ _. ⌜ Accepted-right ⌝ }
     ensures right { λ _. ⌜ Read-right ⌝ }
     ensures all { λ _. ⌜ Read-all ⌝ }
@@ -9,8 +11,6 @@ pub fn reading_stands() -> u8
     ensures one { λ _. ⌜ Read-one ⌝ }
     ensures restored { λ _. ⌜ Restored ⌝ }
     ensures limit { λ _. ⌜ Limit-right ⌝ }
-    ensures doomed { λ _. ⌜ Doomed-right ⌝ }
-    ensures sheet { λ _. ⌜ Sheet-right ⌝ }
 {
     0
 }
