@@ -11,7 +11,6 @@ use Rattle.syntax.specs.Reading.{Seen, Move, Outcome, go, step, over}
 use Rattle.syntax.specs.Reading.Move.{on, off}
 use Rattle.syntax.specs.Reading.Outcome.{done, refused}
 use Rattle.syntax.specs.Texts.{Text, shown}
-use Rattle.syntax.specs.Promises.{Accepted-right}
 use mathlib.Core.Logic.{_⊎_, inl, inr, ⊎-elim}
 use Rattle.std.proofs.shelf.Lists.{append-assoc, append-nil, length-append}
 use Rattle.syntax.specs.Reading.{start-none, read}
@@ -133,7 +132,7 @@ pub short-done : (b : Bool) (o : Outcome) (s : Seen) → cond b (refused 10 6553
 short-done true o s e = absurd (let z : _≡_ {A = ℕ} 0 1 = cc in omega arith)
 short-done false o s e = e
 
-pub accepted-right : Accepted-right
+pub accepted-right : (bs : List ℕ) (s : Seen) → read bs ≡ done s → (t : Text (item First ∷ [])) × (shown t ≡ bs)
 accepted-right bs s e = accepted bs (item First ∷ []) start-none 0 s tt (short-done (ltb 65536 (length bs)) _ s e)
 
 -- the one place

@@ -12,7 +12,7 @@ use Rattle.syntax.specs.Reading.{Seen, read}
 use Rattle.syntax.specs.Reading.Outcome.{done, refused}
 use Rattle.syntax.specs.Texts.{Text, shown, Digits, valued}
 use Rattle.syntax.specs.Trees.{Prog, Right, Limits, Tables, print, table, tables, Each, deep, terms, types}
-use Rattle.syntax.specs.Refusals.{Holds, Given}
+use Rattle.syntax.specs.Refusals.{Whole, Holds, Given}
 use Rattle.syntax.specs.Sound.{Sound}
 use Rattle.syntax.specs.declared.grammar.Sort.the-variants.{First}
 
@@ -24,8 +24,9 @@ Refused-exactly = (bs : List ℕ) (n p : ℕ) → (read bs ≡ refused n p → G
 abbrev pub Accepted-exactly : Type 0
 Accepted-exactly = (bs : List ℕ) → ((s : Seen) → read bs ≡ done s → (n p : ℕ) → Holds bs n p → ⊥) × (((n p : ℕ) → Holds bs n p → ⊥) → (s : Seen) × (read bs ≡ done s))
 
-abbrev pub Accepted-right : Type 0
-Accepted-right = (bs : List ℕ) (s : Seen) → read bs ≡ done s → (t : Text (item First ∷ [])) × (shown t ≡ bs)
+-- The texts of the grammar are the texts of the programs.
+abbrev pub One-grammar : Type 0
+One-grammar = ((t : Whole) → (p : Prog) × (Right p × (print p ≡ shown t))) × ((p : Prog) → Right p → (t : Whole) × (shown t ≡ print p))
 
 -- bs is the text of the program p, which keeps the limits
 pub record Texts (bs : List ℕ) (p : Prog) : Type 0 where

@@ -1,5 +1,6 @@
 -- What holds of every table that is read: its numbers lead to rows that are there, and a part's number is larger than its whole's.
-use Prim.Native.Nat.{ℕ, _+_, _<_, _≤_}
+use mathlib.Core.List.{List}
+use Prim.Native.Nat.{ℕ, zero, suc, _+_, _<_, _≤_}
 use lib.ListN.{length, getD}
 use Rattle.syntax.specs.Trees.{Tables, Each}
 use Rattle.syntax.specs.declared.program.Ty.{Ty}
@@ -68,3 +69,47 @@ Sizes-sound t =
 
 abbrev pub Sound : Tables → Type 0
 Sound t = Types-sound t × Terms-sound t × Sizes-sound t × Small (t .start)
+
+-- P holds of the number of each part of a type.
+abbrev pub Ty-parts : (ℕ → Type 0) → Ty → Type 0
+Ty-parts P Ty·Num = Unit {0}
+Ty-parts P Ty·Never = Unit {0}
+Ty-parts P (Ty·Fn a b) = P a × P b
+Ty-parts P (Ty·Boxed a) = P a
+Ty-parts P (Ty·At a) = P a
+Ty-parts P (Ty·Both a b) = P a × P b
+
+-- P holds of the number of each part of a term that is a term.
+abbrev pub Term-parts : (ℕ → Type 0) → Term → Type 0
+Term-parts P (Term·Num n) = Unit {0}
+Term-parts P (Term·Value n) = Unit {0}
+Term-parts P (Term·Lam t a) = P a
+Term-parts P (Term·App a b) = P a × P b
+Term-parts P (Term·Boxed a) = P a
+Term-parts P (Term·Unbox a) = P a
+Term-parts P (Term·Here a) = P a
+Term-parts P (Term·Letd a b) = P a × P b
+Term-parts P (Term·Get m w a) = P a
+Term-parts P (Term·Pair a b) = P a × P b
+Term-parts P (Term·Fst a) = P a
+Term-parts P (Term·Snd a) = P a
+Term-parts P (Term·Letcc t a) = P a
+Term-parts P (Term·Throw t n a) = P a
+Term-parts P (Term·Go t w a) = P a
+Term-parts P (Term·Gauge n) = Unit {0}
+Term-parts P (Term·Gate n a) = P a
+Term-parts P (Term·Below t a b c d) = P a × P b × P c × P d
+
+-- The type numbered n is at most k types high: it has parts, these have parts, and so on, no more than k of them in a row.
+abbrev pub Ty-low : List Ty → ℕ → ℕ → Type 0
+Ty-low tys zero n = ⊥
+Ty-low tys (suc k) n = Ty-parts (λ a. Ty-low tys k a) (getD tys n Ty·Num)
+
+-- The term numbered n is at most k terms high.
+abbrev pub Term-low : List Term → ℕ → ℕ → Type 0
+Term-low tms zero n = ⊥
+Term-low tms (suc k) n = Term-parts (λ a. Term-low tms k a) (getD tms n (Term·Num 0))
+
+-- No type and no term is more than 64 high.
+abbrev pub Low : Tables → Type 0
+Low t = ((n : ℕ) → n < length (t .tys) → Ty-low (t .tys) 64 n) × ((n : ℕ) → n < length (t .tms) → Term-low (t .tms) 64 n)

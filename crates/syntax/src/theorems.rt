@@ -1,10 +1,10 @@
-ghost use Rattle.syntax.specs.Promises.{Refused-exactly, Accepted-exactly, Accepted-right, Read-right, Read-all, Read-sound, Read-one, Restored, Limit-right};
+ghost use Rattle.syntax.specs.Promises.{Refused-exactly, Accepted-exactly, One-grammar, Read-right, Read-all, Read-sound, Read-one, Restored, Limit-right};
 
 // The theorems of reading.
 pub fn reading_stands() -> u8
     ensures refused { λ _. ⌜ Refused-exactly ⌝ }
     ensures unrefused { λ _. ⌜ Accepted-exactly ⌝ }
-    ensures accepted { λ _. ⌜ Accepted-right ⌝ }
+    ensures grammar { λ _. ⌜ One-grammar ⌝ }
     ensures right { λ _. ⌜ Read-right ⌝ }
     ensures all { λ _. ⌜ Read-all ⌝ }
     ensures sound { λ _. ⌜ Read-sound ⌝ }
