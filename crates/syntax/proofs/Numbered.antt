@@ -42,7 +42,7 @@ rows-at P n [] d k h l = absurd (omega arith)
 rows-at P n (x ∷ xs) d zero h l = subst (λ (i : ℕ). P i x) (let z : n ≡ n + 0 = omega arith in z) (h .0)
 rows-at P n (x ∷ xs) d (suc k) h l = subst (λ (i : ℕ). P i (getD xs k d)) (let z : n + 1 + k ≡ n + suc k = omega arith in z) (rows-at P (n + 1) xs d k (h .1) (omega arith))
 
-row-width : (o : Sort) (M : Made) → Makes o M → (length (ty-row M) ≡ one-type o) × (length (tm-row M) ≡ one-term o)
+pub row-width : (o : Sort) (M : Made) → Makes o M → (length (ty-row M) ≡ one-type o) × (length (tm-row M) ≡ one-term o)
 row-width Types (a-type t) h = (refl, refl)
 row-width Types (a-world c) h = absurd h
 row-width Types (a-term t) h = absurd h
@@ -87,6 +87,26 @@ rows-length (form f t r) (sub k ∷ ps) a b h =
     let u = rows-length t (parts f) a1 b1 (h .1) in
     let v = rows-length r ps (a1 + types t) (b1 + terms t) (h .2) in
     (simp length-append (omega (arith, w .0, u .0, v .0)), simp length-append (omega (arith, w .1, u .1, v .1)))
+
+pub head-at : (v w : List ℕ) (n k : ℕ) → length v ≡ n → getD (v ++ w) (n + k) 0 ≡ getD w k 0
+head-at v w n k e = ap (λ (x : ℕ). getD (v ++ w) (x + k) 0) (sym e) ∙ getD-append-add v w k 0
+
+pub own-type : (M : Made) (a b : ℕ) (v : List ℕ) → Makes Types M → getD (own M a b v) 0 0 ≡ a
+own-type (a-type t) a b v h = refl
+own-type (a-world c) a b v h = absurd h
+own-type (a-term t) a b v h = absurd h
+own-type (a-station g k) a b v h = absurd h
+own-type (a-start n) a b v h = absurd h
+
+pub own-term : (M : Made) (a b : ℕ) (v : List ℕ) → Makes Terms M → getD (own M a b v) 0 0 ≡ b
+own-term (a-type t) a b v h = absurd h
+own-term (a-world c) a b v h = absurd h
+own-term (a-term t) a b v h = refl
+own-term (a-station g k) a b v h = absurd h
+own-term (a-start n) a b v h = absurd h
+
+pub zero-plus : (n : ℕ) → n ≡ n + 0
+zero-plus n = omega arith
 
 -- the values of parts, the last first: types from x on, terms from y on, numbers of the text
 module _ (m l : ℕ) where
@@ -156,26 +176,6 @@ module _ (m l : ℕ) where
   made-sound x y Run v g = tt
 
   -- the values of a tree's parts
-  head-at : (v w : List ℕ) (n k : ℕ) → length v ≡ n → getD (v ++ w) (n + k) 0 ≡ getD w k 0
-  head-at v w n k e = ap (λ (x : ℕ). getD (v ++ w) (x + k) 0) (sym e) ∙ getD-append-add v w k 0
-
-  own-type : (M : Made) (a b : ℕ) (v : List ℕ) → Makes Types M → getD (own M a b v) 0 0 ≡ a
-  own-type (a-type t) a b v h = refl
-  own-type (a-world c) a b v h = absurd h
-  own-type (a-term t) a b v h = absurd h
-  own-type (a-station g k) a b v h = absurd h
-  own-type (a-start n) a b v h = absurd h
-
-  own-term : (M : Made) (a b : ℕ) (v : List ℕ) → Makes Terms M → getD (own M a b v) 0 0 ≡ b
-  own-term (a-type t) a b v h = absurd h
-  own-term (a-world c) a b v h = absurd h
-  own-term (a-term t) a b v h = refl
-  own-term (a-station g k) a b v h = absurd h
-  own-term (a-start n) a b v h = absurd h
-
-  zero-plus : (n : ℕ) → n ≡ n + 0
-  zero-plus n = omega arith
-
   world-number : (x y : ℕ) (M : Made) (a b : ℕ) (v : List ℕ) → Makes Worlds M → Made-sound x y v M → Small (getD (own M a b v) 1 0)
   world-number x y (a-type t) a b v h g = absurd h
   world-number x y (a-world c) a b v h g = g

@@ -13,7 +13,7 @@ use Rattle.syntax.specs.Reading.Outcome.{done, refused}
 use Rattle.syntax.specs.Texts.{Text, shown, Digits, valued}
 use Rattle.syntax.specs.Trees.{Prog, Right, Limits, Tables, print, table, tables, Each, deep, terms, types}
 use Rattle.syntax.specs.Refusals.{Whole, Holds, Given}
-use Rattle.syntax.specs.Sound.{Sound}
+use Rattle.syntax.specs.Sound.{Sound, Low}
 use Rattle.syntax.specs.declared.grammar.Sort.the-variants.{First}
 
 -- A text is refused by n at p exactly if that refusal holds of it and comes before all others that hold.
@@ -49,6 +49,10 @@ Read-all = (bs : List ℕ) (p : Prog) → Texts bs p → read bs ≡ done (whole
 -- the tables that are read lead nowhere but to rows that are there, and keep the limits
 abbrev pub Read-sound : Type 0
 Read-sound = (bs : List ℕ) (s : Seen) → read bs ≡ done s → Sound (tables s)
+
+-- No type and no term that is read is more than 64 high.
+abbrev pub Read-low : Type 0
+Read-low = (bs : List ℕ) (s : Seen) → read bs ≡ done s → Low (tables s)
 
 -- bytes are the text of one program at most
 abbrev pub Read-one : Type 0

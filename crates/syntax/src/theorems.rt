@@ -1,4 +1,4 @@
-ghost use Rattle.syntax.specs.Promises.{Refused-exactly, Accepted-exactly, One-grammar, Read-right, Read-all, Read-sound, Read-one, Restored, Limit-right};
+ghost use Rattle.syntax.specs.Promises.{Refused-exactly, Accepted-exactly, One-grammar, Read-right, Read-all, Read-sound, Read-low, Read-one, Restored, Limit-right};
 
 // The theorems of reading.
 pub fn reading_stands() -> u8
@@ -8,6 +8,7 @@ pub fn reading_stands() -> u8
     ensures right { λ _. ⌜ Read-right ⌝ }
     ensures all { λ _. ⌜ Read-all ⌝ }
     ensures sound { λ _. ⌜ Read-sound ⌝ }
+    ensures low { λ _. ⌜ Read-low ⌝ }
     ensures one { λ _. ⌜ Read-one ⌝ }
     ensures restored { λ _. ⌜ Restored ⌝ }
     ensures limit { λ _. ⌜ Limit-right ⌝ }
