@@ -1,7 +1,7 @@
 -- What a text can go on with.
-use mathlib.Core.Path.{_≡_, refl, sym, ap, _∙_, subst}
-use mathlib.Core.List.{List, [], _∷_, _++_}
-use mathlib.Core.Bool.{Bool, true, false, cond, _&&_}
+use mathlib.Core.Path.{_≡_, refl, subst}
+use mathlib.Core.List.{List, _∷_}
+use mathlib.Core.Bool.{Bool, false, cond}
 use Prim.Native.Nat.{ℕ, _-_}
 use lib.Dec.{eqb, leb}
 use Rattle.std.proofs.shelf.Tests.{and-right}
@@ -20,14 +20,14 @@ use Rattle.syntax.proofs.Places.{complete}
 abbrev pub Goes : List Want → ℕ → Type 0
 Goes ws c = (t : Text ws) × ((y : List ℕ) × (shown t ≡ c ∷ y))
 
-empty-full : (o : Sort) → full o start-none ≡ false
+pub empty-full : (o : Sort) → full o start-none ≡ false
 empty-full Types = refl
 empty-full Worlds = refl
 empty-full Terms = refl
 empty-full First = refl
 empty-full Further = refl
 
-empty-many : (o : Sort) (c : ℕ) → many o c start-none ≡ false
+pub empty-many : (o : Sort) (c : ℕ) → many o c start-none ≡ false
 empty-many Types c = refl
 empty-many Worlds c = refl
 empty-many Terms c = refl

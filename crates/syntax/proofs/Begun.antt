@@ -3,32 +3,29 @@ use mathlib.Core.Path.{_≡_, refl, sym, ap, _∙_, subst}
 use mathlib.Core.List.{List, [], _∷_, _++_}
 use mathlib.Core.Bool.{Bool, true, false, cond, _&&_, not}
 use mathlib.Core.Logic.{_⊎_, inl, inr, ⊎-elim}
-use Prim.Native.Nat.{ℕ, _+_, _*_, _-_, _<_, _≤_}
+use Prim.Native.Nat.{ℕ, _+_, _-_, _<_, _≤_}
 use native.Mathlib.Omega.{arith}
-use lib.Dec.{eqb, ltb, leb}
+use lib.Dec.{eqb, leb}
 use lib.ListN.{length, take}
 use lib.Chars.{codes}
-use Rattle.std.proofs.shelf.Tests.{eqb-true, eqb-false, ltb-true, ltb-false, leb-true, leb-false, le-leb, lt-leb, and-parts, and-from, and-cases, not-true, both-ways}
-use Rattle.std.proofs.shelf.Lists.{append-assoc, append-nil, length-push, length-append, length-set}
-use Rattle.syntax.specs.Grammar.{Stop, Want, Part, Kind, Made, byte, wants, words, more, shut, sep, parts, row, spelling, last, sort-of, width}
+use Rattle.std.proofs.shelf.Tests.{eqb-true, leb-false, and-parts, not-true}
+use Rattle.std.proofs.shelf.Lists.{append-nil, length-push}
+use Rattle.syntax.specs.Grammar.{Stop, Want, Part, Kind, Made, wants, words, more, shut, sep, parts, row, last, sort-of, width}
 use Rattle.syntax.specs.Grammar.Stop.{space, close, line}
 use Rattle.syntax.specs.Grammar.Want.{stop, number, digits, item, word}
 use Rattle.syntax.specs.Grammar.Part.{num, sub}
 use Rattle.syntax.specs.Grammar.Kind.{type, world, term}
 use Rattle.syntax.specs.Grammar.Made.{a-type, a-world, a-term, a-station, a-start}
-use Rattle.syntax.specs.Reading.{Seen, Move, Outcome, go, step, over, read, start-none, after, began, spelled, digit, full, begun, many, passed, push, counted, opened, at-depth, settled}
+use Rattle.syntax.specs.Reading.{Seen, Move, after, begun, many, passed, push, at-depth, settled}
 use Rattle.syntax.specs.Reading.Move.{on, off}
-use Rattle.syntax.specs.Reading.Outcome.{done, refused}
-use Rattle.syntax.specs.Texts.{In, Text, shown, Digits, valued, New, new-item, new-number, noted, places}
-use Rattle.syntax.specs.Texts.New.{new-line, new-count, new-term, new-type}
+use Rattle.syntax.specs.Texts.{In, new-item, noted}
+use Rattle.syntax.specs.Texts.New.{new-line}
 use Rattle.syntax.specs.declared.grammar.Form.{Form}
 use Rattle.syntax.specs.declared.grammar.Form.the-variants.{TNum, TNone, TFn, TBox, TAt, TBoth, Site, Bound, Num, Val, Lam, App, Boxed, Unbox, Here, Letd, Getb, Getd, Getn, Pair, Fst, Snd, Letcc, Throw, Go, Gauge, Gate, Below, Station, Run}
 use Rattle.syntax.specs.declared.grammar.Sort.{Sort}
 use Rattle.syntax.specs.declared.grammar.Sort.the-variants.{Types, Worlds, Terms, First, Further}
-use Rattle.syntax.proofs.Steps.{go-cons, moved}
-use Rattle.syntax.proofs.Theory.{Follows, takes, beyond, mark, places-first}
-use Rattle.syntax.proofs.Sound.{Plain, Fine, plain-wants, Wide, Whole, wide-after}
-use Rattle.syntax.proofs.Forms.{begun-sizes, settled-sizes}
+use Rattle.syntax.proofs.Theory.{mark}
+use Rattle.syntax.proofs.Sound.{Plain, Fine, Whole, wide-after}
 use Rattle.syntax.proofs.Rows.{in-kind, inner}
 use Rattle.syntax.specs.Texts.In.{here, there}
 use Rattle.syntax.proofs.Reach.{Stepped}

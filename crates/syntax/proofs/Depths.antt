@@ -3,28 +3,26 @@ use mathlib.Core.Path.{_≡_, refl, sym, ap, _∙_, subst}
 use mathlib.Core.List.{List, [], _∷_, _++_}
 use mathlib.Core.Bool.{Bool, true, false, cond, _&&_, not}
 use mathlib.Core.Logic.{_⊎_, inl, inr, ⊎-elim}
-use Prim.Native.Nat.{ℕ, _+_, _*_, _-_, _<_, _≤_}
+use Prim.Native.Nat.{ℕ, _+_, _*_, _-_, _≤_}
 use native.Mathlib.Omega.{arith}
 use lib.Dec.{eqb, ltb, leb}
-use lib.ListN.{length, getD, drop, take}
-use Rattle.std.proofs.shelf.Tests.{eqb-true, eqb-false, ne-eqb, leb-true, leb-false, both-ways, and-parts, and-cases, not-true}
-use Rattle.std.proofs.shelf.Lists.{append-assoc, append-nil, length-push}
-use Rattle.syntax.specs.Grammar.{Stop, Want, Part, byte, wants, words, more, shut, sep, parts, row, spelling, last, spelled-out, forms, width}
+use lib.ListN.{getD, drop, take}
+use Rattle.std.proofs.shelf.Tests.{eqb-true, ne-eqb, leb-true, leb-false, and-parts, not-true}
+use Rattle.std.proofs.shelf.Lists.{append-assoc}
+use Rattle.syntax.specs.Grammar.{Stop, Want, Part, byte, wants, words, more, shut, parts, row, spelling, last, spelled-out, forms, width}
 use Rattle.syntax.specs.Grammar.Stop.{space, close, line}
 use Rattle.syntax.specs.Grammar.Want.{stop, number, digits, item, word}
 use Rattle.syntax.specs.Grammar.Part.{num, sub}
-use Rattle.syntax.specs.Reading.{Seen, Move, Outcome, go, step, over, read, start-none, after, began, spelled, digit, full, begun, many, passed, push, counted, opened, at-depth}
+use Rattle.syntax.specs.Reading.{Seen, Move, step, start-none, after, began, spelled, digit, full, begun, many, passed, push, counted, at-depth}
 use Rattle.syntax.specs.Reading.Move.{on, off}
-use Rattle.syntax.specs.Reading.Outcome.{done, refused}
 use Rattle.syntax.specs.Texts.{Text, shown}
 use Rattle.syntax.specs.Refusals.{tally}
 use Rattle.syntax.specs.declared.grammar.Form.{Form}
 use Rattle.syntax.specs.declared.grammar.Form.the-variants.{TNum, TNone, TFn, TBox, TAt, TBoth, Site, Bound, Num, Val, Lam, App, Boxed, Unbox, Here, Letd, Getb, Getd, Getn, Pair, Fst, Snd, Letcc, Throw, Go, Gauge, Gate, Below, Station, Run}
 use Rattle.syntax.specs.declared.grammar.Sort.{Sort}
-use Rattle.syntax.specs.declared.grammar.Sort.the-variants.{Types, Worlds, Terms, First, Further}
-use Rattle.syntax.proofs.Steps.{go-cons, moved}
+use Rattle.syntax.specs.declared.grammar.Sort.the-variants.{First}
 use Rattle.syntax.proofs.Rows.{spelt}
-use Rattle.syntax.proofs.Sound.{Plain, Fine, Sound, step-sound, plain-wants, from-after}
+use Rattle.syntax.proofs.Sound.{Plain, Fine, Sound, plain-wants}
 use Rattle.syntax.proofs.Forms.{begun-sizes, settled-sizes}
 
 abbrev pub is : ℕ → ℕ → ℕ

@@ -1,7 +1,7 @@
 -- How high the types and terms of a program are.
 use mathlib.Core.Path.{_≡_, refl, sym, ap, _∙_, subst}
 use mathlib.Core.List.{List, [], _∷_, _++_}
-use mathlib.Core.Bool.{Bool, true, false, cond}
+use mathlib.Core.Bool.{Bool, true, cond}
 use mathlib.Core.Logic.{_⊎_, inl, inr, ⊎-elim}
 use Rattle.std.proofs.shelf.Tests.{cases-lt}
 use Prim.Native.Nat.{ℕ, zero, suc, _+_, _<_, _≤_, max}
@@ -13,18 +13,17 @@ use Rattle.syntax.specs.Grammar.{Part, Kind, Made, parts, row, last, sort-of, 
 use Rattle.syntax.specs.Grammar.Part.{num, sub}
 use Rattle.syntax.specs.Grammar.Kind.{type, world, term}
 use Rattle.syntax.specs.Grammar.Made.{a-type, a-world, a-term, a-station, a-start}
-use Rattle.syntax.specs.Trees.{Parts, Prog, Fit, Right, Limits, deep, nested, Tables, table, tables, one-type, one-term, types, terms, own, values, ty-row, tm-row, ty-rows, tm-rows}
+use Rattle.syntax.specs.Trees.{Parts, Prog, Fit, Right, Limits, deep, nested, table, tables, one-type, one-term, types, terms, own, values, ty-row, tm-row, ty-rows, tm-rows}
 use Rattle.syntax.specs.Trees.Parts.{none, number as number′, form}
 use Rattle.syntax.specs.Sound.{Ty-parts, Term-parts, Ty-low, Term-low, Low}
 use Rattle.syntax.specs.declared.grammar.Form.{Form}
 use Rattle.syntax.specs.declared.grammar.Form.the-variants.{TNum, TNone, TFn, TBox, TAt, TBoth, Site, Bound, Num, Val, Lam, App, Boxed, Unbox, Here, Letd, Getb, Getd, Getn, Pair, Fst, Snd, Letcc, Throw, Go, Gauge, Gate, Below, Station, Run}
 use Rattle.syntax.specs.declared.grammar.Sort.{Sort}
-use Rattle.syntax.specs.declared.grammar.Sort.the-variants.{Types, Worlds, Terms, First, Further}
 use Rattle.syntax.specs.declared.program.Ty.{Ty}
 use Rattle.syntax.specs.declared.program.Ty.the-variants.{Num as Ty·Num, Never as Ty·Never, Fn as Ty·Fn, Boxed as Ty·Boxed, At as Ty·At, Both as Ty·Both}
 use Rattle.syntax.specs.declared.program.Term.{Term}
 use Rattle.syntax.specs.declared.program.Term.the-variants.{Num as Term·Num, Value as Term·Value, Lam as Term·Lam, App as Term·App, Boxed as Term·Boxed, Unbox as Term·Unbox, Here as Term·Here, Letd as Term·Letd, Get as Term·Get, Pair as Term·Pair, Fst as Term·Fst, Snd as Term·Snd, Letcc as Term·Letcc, Throw as Term·Throw, Go as Term·Go, Gauge as Term·Gauge, Gate as Term·Gate, Below as Term·Below}
-use Rattle.syntax.proofs.Rows.{Makes, makes, own-width}
+use Rattle.syntax.proofs.Rows.{Makes, makes}
 use Rattle.syntax.proofs.Tables.{values-width}
 use Rattle.syntax.proofs.Exact.{read-right}
 use Rattle.syntax.specs.Promises.{Read-low}

@@ -7,22 +7,20 @@ use native.Mathlib.Omega.{arith}
 use lib.Dec.{eqb}
 use lib.ListN.{length, getD}
 use Rattle.std.proofs.shelf.Lists.{length-append, getD-append-left, getD-at, getD-append-add}
-use Rattle.syntax.specs.Grammar.{Part, Kind, Made, parts, row, sort-of, width, nth, cells, world-by}
+use Rattle.syntax.specs.Grammar.{Part, Kind, Made, parts, row, sort-of, width, nth, world-by}
 use Rattle.syntax.specs.Grammar.Part.{num, sub}
 use Rattle.syntax.specs.Grammar.Kind.{type, world, term}
 use Rattle.syntax.specs.Grammar.Made.{a-type, a-world, a-term, a-station, a-start}
-use Rattle.syntax.specs.Trees.{Parts, Prog, Fit, Right, Limits, Each, Tables, table, tables, one-type, one-term, types, terms, own, values, ty-row, tm-row, ty-rows, tm-rows}
+use Rattle.syntax.specs.Trees.{Parts, Prog, Fit, Right, Limits, table, tables, one-type, one-term, types, terms, own, values, ty-row, tm-row, ty-rows, tm-rows}
 use Rattle.syntax.specs.Trees.Parts.{none, number as number′, form}
 use Rattle.syntax.specs.Sound.{Inside, Small, Ty-sound, World-sound, Term-sound, Sound}
 use Rattle.syntax.specs.declared.grammar.Form.{Form}
 use Rattle.syntax.specs.declared.grammar.Form.the-variants.{TNum, TNone, TFn, TBox, TAt, TBoth, Site, Bound, Num, Val, Lam, App, Boxed, Unbox, Here, Letd, Getb, Getd, Getn, Pair, Fst, Snd, Letcc, Throw, Go, Gauge, Gate, Below, Station, Run}
 use Rattle.syntax.specs.declared.grammar.Sort.{Sort}
 use Rattle.syntax.specs.declared.grammar.Sort.the-variants.{Types, Worlds, Terms, First, Further}
-use Rattle.syntax.specs.declared.program.Ty.{Ty}
 use Rattle.syntax.specs.declared.program.Ty.the-variants.{Num as Ty·Num}
-use Rattle.syntax.specs.declared.program.Term.{Term}
 use Rattle.syntax.specs.declared.program.Term.the-variants.{Num as Term·Num}
-use Rattle.syntax.proofs.Rows.{Makes, makes, own-width}
+use Rattle.syntax.proofs.Rows.{Makes, makes}
 use Rattle.syntax.proofs.Tables.{values-width}
 use Rattle.syntax.proofs.Exact.{read-right}
 use Rattle.syntax.specs.Promises.{Read-sound}

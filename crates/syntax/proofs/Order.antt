@@ -1,24 +1,24 @@
 -- What holds of a text is refused, there or sooner.
 use mathlib.Core.Path.{_≡_, refl, sym, ap, _∙_, subst}
 use mathlib.Core.List.{List, [], _∷_, _++_}
-use mathlib.Core.Bool.{Bool, true, false, cond, _&&_, not}
+use mathlib.Core.Bool.{Bool, true, false, cond, _&&_}
 use mathlib.Core.Logic.{_⊎_, inl, inr, ⊎-elim}
 use Prim.Native.Nat.{ℕ, _+_, _*_, _-_, _<_, _≤_}
 use native.Mathlib.Omega.{arith}
 use lib.Dec.{eqb, ltb, leb}
 use lib.ListN.{length}
-use Rattle.std.proofs.shelf.Tests.{eqb-true, eqb-false, ltb-true, ltb-false, leb-true, le-leb, lt-leb, le-ltb, lt-ltb, and-parts, and-from, both-ways, cases-eq, cases-lt, not-true}
-use Rattle.std.proofs.shelf.Lists.{append-assoc, append-nil, length-push, length-append, append-cancel-left}
-use Rattle.syntax.specs.Grammar.{Stop, Want, byte, wants, words}
+use Rattle.std.proofs.shelf.Tests.{ltb-false, leb-true, le-leb, le-ltb, lt-ltb, and-parts, and-from, both-ways, cases-eq, cases-lt}
+use Rattle.std.proofs.shelf.Lists.{append-assoc, length-push, length-append, append-cancel-left}
+use Rattle.syntax.specs.Grammar.{Stop, Want, byte, words}
 use Rattle.syntax.specs.Grammar.Want.{stop, number, digits, item, word}
-use Rattle.syntax.specs.Reading.{Seen, Move, Outcome, go, step, read, start-none, after as rests, began, begun, digit, full, many, counted}
+use Rattle.syntax.specs.Reading.{Seen, Outcome, go, read, start-none, after as rests, began, begun, digit, full}
 use Rattle.syntax.specs.Reading.Move.{on, off}
 use Rattle.syntax.specs.Reading.Outcome.{done, refused}
 use Rattle.syntax.specs.Texts.{In, Text, shown, Digits, valued, New, new-item, new-number, noted, places}
 use Rattle.syntax.specs.Texts.In.{here, there}
 use Rattle.syntax.specs.Texts.Text.{end, past, nought, some, rest, pick, spell}
 use Rattle.syntax.specs.Texts.New.{new-line, new-count, new-term, new-type}
-use Rattle.syntax.specs.Refusals.{Whole, Wrong, Stands, Nth, tally, Deep, Many, Sheeted, Holds, Before, Given}
+use Rattle.syntax.specs.Refusals.{Whole, Wrong, Stands, Nth, Deep, Many, Sheeted, Holds, Before, Given}
 use Rattle.syntax.specs.Refusals.Sheeted.{a-line, a-count}
 use Rattle.syntax.specs.Refusals.Holds.{too-long, no-text, too-deep, too-many, too-wide}
 use Rattle.syntax.specs.declared.grammar.Form.{Form}
@@ -27,17 +27,16 @@ use Rattle.syntax.specs.declared.grammar.Sort.the-variants.{Types, Worlds, Ter
 use Rattle.syntax.specs.Promises.{Refused-exactly, Accepted-exactly}
 use Rattle.syntax.proofs.Steps.{go-cons, moved, number-some, digits-sheet, digits-on}
 use Rattle.syntax.proofs.Theory.{Follows, takes, mark, beyond, places-first, no-digit, valued-ge}
-use Rattle.syntax.proofs.Sound.{Plain, Fine}
 use Rattle.syntax.proofs.Places.{Longer, splits, Place, not-done, one-place, refused-at, accepted}
 use Rattle.syntax.proofs.Refused.{Onward, goes-on, read-holds}
-use Rattle.syntax.proofs.Depths.{Inv, Clean, Neat, plain, closers, pend, not-open, no-bracket}
-use Rattle.syntax.proofs.Reach.{Reach, held, Comes, come, Halt, halt}
+use Rattle.syntax.proofs.Depths.{Inv, Clean, Neat, closers, not-open}
+use Rattle.syntax.proofs.Reach.{held, Comes, come, Halt, halt}
 use Rattle.syntax.proofs.Reach.Comes.{stops, comes}
 use Rattle.syntax.proofs.Begun.{both-lines, Lined}
-use Rattle.syntax.proofs.Ways.{Way, way, Sized, Below}
+use Rattle.syntax.proofs.Ways.{Way, way, Below}
 
 -- all begin from a place on
-abbrev Above : ℕ → List ℕ → Type 0
+abbrev pub Above : ℕ → List ℕ → Type 0
 Above n [] = Unit {0}
 Above n (i ∷ l) = (n ≤ i) × Above n l
 
@@ -62,7 +61,7 @@ places-above x (pick o b d w f m t) i =
     above-noted (new-item x o) i (places x t j) (above-less i j (places x t j) (omega arith) (places-above x t j))
 places-above x (spell o ks h b w f m t) i = let j : ℕ = i + length w + 1 in above-less i j (places x t j) (omega arith) (places-above x t j)
 
-beyond-above : (x : New) {ws : List Want} (t : Text ws) (i : ℕ) → Above (i + 1) (beyond x t i)
+pub beyond-above : (x : New) {ws : List Want} (t : Text ws) (i : ℕ) → Above (i + 1) (beyond x t i)
 beyond-above x end i = tt
 beyond-above x (past a t) i = places-above x t (i + 1)
 beyond-above x (nought k a t) i = above-less (i + 1) (i + 2) (places x t (i + 2)) (omega arith) (places-above x t (i + 2))
@@ -81,7 +80,7 @@ not-below i (j ∷ l) r h = not-below i l r (h .1)
 
 -- the place of a thing is where one is wanted, and as many began before as were counted
 module _ (i n : ℕ) (past l r b : List ℕ) (low : Below i past) (high : Above (i + 1) b) (size : length l ≡ n) where
-  sorted : (m : Bool) → past ++ noted m i b ≡ l ++ i ∷ r → (m ≡ true) × (length past ≡ n)
+  pub sorted : (m : Bool) → past ++ noted m i b ≡ l ++ i ∷ r → (m ≡ true) × (length past ≡ n)
   sorted true e = (refl, ⊎-elim (λ (q : l ≡ past). ap (λ (x : List ℕ). length x) (sym q) ∙ size)
       (⊎-elim (λ (q : Longer l past (i ∷ r)). absurd (let d-is : q .d ≡ i = (let z = q .rest in cc) in not-below i l (q .y) (subst (Below i) (q .is ∙ ap (λ (x : ℕ). l ++ x ∷ q .y) d-is) low)))
         (λ (q : Longer past l (i ∷ b)). absurd

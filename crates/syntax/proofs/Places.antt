@@ -1,7 +1,7 @@
 -- Where refusal 11 stands, and that what is accepted is a text.
 use mathlib.Core.Path.{_≡_, refl, sym, ap, _∙_, subst}
 use mathlib.Core.List.{List, [], _∷_, _++_}
-use Prim.Native.Nat.{ℕ, _+_, _<_, _≤_}
+use Prim.Native.Nat.{ℕ, _+_}
 use native.Mathlib.Omega.{arith}
 use lib.ListN.{length}
 use Rattle.syntax.specs.Grammar.{Want, wants}
@@ -12,11 +12,10 @@ use Rattle.syntax.specs.Reading.Move.{on, off}
 use Rattle.syntax.specs.Reading.Outcome.{done, refused}
 use Rattle.syntax.specs.Texts.{Text, shown}
 use mathlib.Core.Logic.{_⊎_, inl, inr, ⊎-elim}
-use Rattle.std.proofs.shelf.Lists.{append-assoc, append-nil, length-append}
+use Rattle.std.proofs.shelf.Lists.{append-assoc, append-nil}
 use Rattle.syntax.specs.Reading.{start-none, read}
 use mathlib.Core.Bool.{Bool, true, false, cond}
 use lib.Dec.{ltb}
-use Rattle.std.proofs.shelf.Tests.{cases-eq}
 use Rattle.syntax.specs.Texts.In.{here, there}
 use Rattle.syntax.specs.Texts.Text.{end, past, nought, some, rest, pick, spell}
 use Rattle.syntax.specs.declared.grammar.Form.the-variants.{TNum, Bound, Val, Station, Run}

@@ -1,35 +1,25 @@
 -- How far reading has come, and what a text that begins so has begun by then.
 use mathlib.Core.Path.{_≡_, refl, sym, ap, _∙_, subst}
 use mathlib.Core.List.{List, [], _∷_, _++_}
-use mathlib.Core.Bool.{Bool, true, false, cond, _&&_, not}
-use mathlib.Core.Logic.{_⊎_, inl, inr, ⊎-elim}
+use mathlib.Core.Bool.{Bool, true, false, cond, _&&_}
 use Prim.Native.Nat.{ℕ, _+_, _*_, _-_, _<_, _≤_}
 use native.Mathlib.Omega.{arith}
 use lib.Dec.{eqb, ltb, leb}
-use lib.ListN.{length, take}
-use lib.Chars.{codes}
-use Rattle.std.proofs.shelf.Tests.{eqb-true, eqb-false, ltb-true, ltb-false, leb-true, leb-false, le-leb, lt-leb, and-parts, and-from, and-cases, not-true, both-ways}
-use Rattle.std.proofs.shelf.Lists.{append-assoc, append-nil, length-push, length-append, length-set}
-use Rattle.syntax.specs.Grammar.{Stop, Want, Part, Kind, Made, byte, wants, words, more, shut, sep, parts, row, spelling, last, sort-of, width}
-use Rattle.syntax.specs.Grammar.Stop.{space, close, line}
+use lib.ListN.{length}
+use Rattle.std.proofs.shelf.Tests.{eqb-true, eqb-false, ltb-true, leb-true, and-parts}
+use Rattle.std.proofs.shelf.Lists.{append-assoc, append-nil, length-push, length-append}
+use Rattle.syntax.specs.Grammar.{Stop, Want, byte, wants, words}
 use Rattle.syntax.specs.Grammar.Want.{stop, number, digits, item, word}
-use Rattle.syntax.specs.Grammar.Part.{num, sub}
-use Rattle.syntax.specs.Grammar.Kind.{type, world, term}
-use Rattle.syntax.specs.Grammar.Made.{a-type, a-world, a-term, a-station, a-start}
-use Rattle.syntax.specs.Reading.{Seen, Move, Outcome, go, step, over, read, start-none, after, began, spelled, digit, full, begun, many, passed, push, counted, opened, at-depth, settled}
+use Rattle.syntax.specs.Reading.{Seen, Move, go, step, over, start-none, after, began, spelled, digit, full, begun, many, passed, push, counted, opened}
 use Rattle.syntax.specs.Reading.Move.{on, off}
-use Rattle.syntax.specs.Reading.Outcome.{done, refused}
-use Rattle.syntax.specs.Texts.{In, Text, shown, Digits, valued, New, new-item, new-number, noted, places}
-use Rattle.syntax.specs.Texts.New.{new-line, new-count, new-term, new-type}
+use Rattle.syntax.specs.Reading.Outcome.{refused}
+use Rattle.syntax.specs.Texts.{Digits, valued}
 use Rattle.syntax.specs.declared.grammar.Form.{Form}
-use Rattle.syntax.specs.declared.grammar.Form.the-variants.{TNum, TNone, TFn, TBox, TAt, TBoth, Site, Bound, Num, Val, Lam, App, Boxed, Unbox, Here, Letd, Getb, Getd, Getn, Pair, Fst, Snd, Letcc, Throw, Go, Gauge, Gate, Below, Station, Run}
 use Rattle.syntax.specs.declared.grammar.Sort.{Sort}
-use Rattle.syntax.specs.declared.grammar.Sort.the-variants.{Types, Worlds, Terms, First, Further}
+use Rattle.syntax.specs.declared.grammar.Sort.the-variants.{First}
 use Rattle.syntax.proofs.Steps.{go-cons, moved}
-use Rattle.syntax.proofs.Theory.{Follows, takes, beyond, mark, places-first}
-use Rattle.syntax.proofs.Sound.{Plain, Fine, Sound, step-sound, plain-wants, plain-next}
+use Rattle.syntax.proofs.Sound.{Plain, Fine, Sound, step-sound, plain-wants}
 use Rattle.syntax.proofs.Depths.{Inv, inv-start, inv-step, step-keeps, Keeps}
-use Rattle.syntax.proofs.Forms.{begun-sizes, settled-sizes}
 use Rattle.syntax.proofs.Runs.{small as counted-small}
 
 -- reading the bytes has come to want ws, with s seen

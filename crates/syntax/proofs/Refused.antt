@@ -1,38 +1,36 @@
 -- Every refusal that is given holds.
 use mathlib.Core.Path.{_≡_, refl, sym, ap, _∙_, subst}
 use mathlib.Core.List.{List, [], _∷_, _++_}
-use mathlib.Core.Bool.{Bool, true, false, cond, _&&_}
-use mathlib.Core.Logic.{_⊎_, inl, inr, ⊎-elim}
+use mathlib.Core.Bool.{Bool, true, false, cond}
+use mathlib.Core.Logic.{inl, inr, ⊎-elim}
 use Prim.Native.Nat.{ℕ, _+_, _*_, _-_, _<_, _≤_}
 use native.Mathlib.Omega.{arith}
 use lib.Dec.{eqb, ltb, leb}
 use lib.ListN.{length}
 use Rattle.std.proofs.shelf.Tests.{eqb-true, ltb-true, leb-true, and-parts, both-ways, cases-eq}
-use Rattle.std.proofs.shelf.Lists.{append-assoc, length-push, length-append}
-use Rattle.syntax.specs.Grammar.{Stop, Want, byte, wants, words}
-use Rattle.syntax.specs.Grammar.Want.{stop, number, digits, item, word}
-use Rattle.syntax.specs.Reading.{Seen, Move, Outcome, go, read, start-none, after as rests, digit, full, many, counted}
+use Rattle.std.proofs.shelf.Lists.{append-assoc, length-push}
+use Rattle.syntax.specs.Grammar.{Stop, Want, byte, words}
+use Rattle.syntax.specs.Grammar.Want.{digits, item, word}
+use Rattle.syntax.specs.Reading.{Seen, Move, go, read, start-none, after as rests, digit, full, many, counted}
 use Rattle.syntax.specs.Reading.Move.{on, off}
-use Rattle.syntax.specs.Reading.Outcome.{done, refused}
-use Rattle.syntax.specs.Texts.{Text, shown, Digits, valued, New, new-item, noted, places}
+use Rattle.syntax.specs.Reading.Outcome.{refused}
+use Rattle.syntax.specs.Texts.{shown, New, new-item, noted, places}
 use Rattle.syntax.specs.Texts.Text.{rest}
 use Rattle.syntax.specs.Texts.New.{new-line, new-count, new-term, new-type}
-use Rattle.syntax.specs.Refusals.{Whole, Wrong, Stands, Nth, tally, Deep, Many, Sheeted, Holds}
+use Rattle.syntax.specs.Refusals.{Whole, Wrong, Stands, Nth, Holds}
 use Rattle.syntax.specs.Refusals.Sheeted.{a-line, a-count}
 use Rattle.syntax.specs.Refusals.Holds.{too-long, no-text, too-deep, too-many, too-wide}
 use Rattle.syntax.specs.declared.grammar.Form.{Form}
 use Rattle.syntax.specs.declared.grammar.Sort.{Sort}
 use Rattle.syntax.specs.declared.grammar.Sort.the-variants.{Types, Worlds, Terms, First, Further}
-use Rattle.syntax.proofs.Theory.{mark, beyond, places-first}
-use Rattle.syntax.proofs.Sound.{Plain, Fine}
-use Rattle.syntax.proofs.Places.{complete, plain-text, refused-at}
-use Rattle.syntax.proofs.Depths.{Inv, closers, pend}
+use Rattle.syntax.proofs.Theory.{beyond, places-first}
+use Rattle.syntax.proofs.Places.{plain-text, refused-at}
 use Rattle.syntax.proofs.Alive.{Goes, item-goes, word-goes}
-use Rattle.syntax.proofs.Reach.{Stepped, Reach, held, halved, Tail, more-tail, Halt, halt}
+use Rattle.syntax.proofs.Reach.{Stepped, Reach, held, halved, more-tail, halt}
 use Rattle.syntax.proofs.Reach.Stepped.{wrong, stopped, zeroed, digited, numbered, longer, passes, deeper, fuller, started, whole, letter, crowded}
-use Rattle.syntax.proofs.Begun.{Lined, Choice, nos-after}
+use Rattle.syntax.proofs.Begun.{Choice, nos-after}
 use Rattle.syntax.proofs.Begun.Choice.{second, station, run}
-use Rattle.syntax.proofs.Ways.{Way, way, Sized}
+use Rattle.syntax.proofs.Ways.{Way, way}
 
 -- a text that goes on from a place that reading comes to
 pub record Onward (before : List ℕ) (ws : List Want) (s : Seen) (c : ℕ) : Type 0 where

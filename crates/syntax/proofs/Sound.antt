@@ -2,26 +2,22 @@
 use mathlib.Core.Path.{_≡_, refl, sym, ap, _∙_, subst}
 use mathlib.Core.List.{List, [], _∷_, _++_}
 use mathlib.Core.Bool.{Bool, true, false, cond, _&&_}
-use Prim.Native.Nat.{ℕ, _+_, _*_, _-_, _<_, _≤_}
+use Prim.Native.Nat.{ℕ, _+_, _*_, _-_, _<_}
 use native.Mathlib.Omega.{arith}
 use lib.Dec.{eqb, ltb, leb}
-use lib.ListN.{length}
 use Rattle.std.proofs.shelf.Tests.{eqb-true, eqb-false, ltb-true, leb-true, and-parts}
 use Rattle.syntax.specs.Grammar.{Stop, Want, Part, byte, wants, words, more, shut, parts, row}
 use Rattle.syntax.specs.Grammar.Part.{num, sub}
-use Rattle.syntax.specs.Grammar.Stop.{space, close, line}
 use Rattle.syntax.specs.Grammar.Want.{stop, number, digits, item, word}
-use Rattle.syntax.specs.Reading.{Seen, Move, Outcome, go, step, after, began, spelled, digit, over, full, begun, many, passed, push, counted, opened}
+use Rattle.syntax.specs.Reading.{Seen, Move, step, after, began, spelled, digit, full, begun, many, passed, push, counted}
 use Rattle.syntax.specs.Reading.Move.{on, off}
-use Rattle.syntax.specs.Reading.Outcome.{done, refused}
 use Rattle.syntax.specs.Texts.{In, Digits, valued, Apart, Text, shown}
 use Rattle.syntax.specs.Texts.In.{here, there}
-use Rattle.syntax.specs.Texts.Text.{end, past, nought, some, rest, pick, spell}
+use Rattle.syntax.specs.Texts.Text.{past, nought, some, rest, pick, spell}
 use Rattle.syntax.specs.declared.grammar.Form.{Form}
 use Rattle.syntax.specs.declared.grammar.Form.the-variants.{TNum, TNone, TFn, TBox, TAt, TBoth, Site, Bound, Num, Val, Lam, App, Boxed, Unbox, Here, Letd, Getb, Getd, Getn, Pair, Fst, Snd, Letcc, Throw, Go, Gauge, Gate, Below, Station, Run}
 use Rattle.syntax.specs.declared.grammar.Sort.{Sort}
 use Rattle.syntax.specs.declared.grammar.Sort.the-variants.{Types, Worlds, Terms, First, Further}
-use Rattle.syntax.proofs.Steps.{go-cons, moved}
 use Rattle.syntax.proofs.Theory.{words-apart, apart-after}
 
 -- nothing is half read

@@ -1,28 +1,26 @@
 -- Every program's text is a text of the grammar.
 use mathlib.Core.Path.{_≡_, refl, sym, ap, _∙_, subst}
 use mathlib.Core.List.{List, [], _∷_, _++_}
-use mathlib.Core.Bool.{Bool, true, false, cond}
-use Prim.Native.Nat.{ℕ, _+_, _-_, _<_, _≤_}
+use mathlib.Core.Bool.{Bool, true, false}
+use Prim.Native.Nat.{ℕ, _<_}
 use native.Mathlib.Omega.{arith}
 use lib.Dec.{eqb}
 use lib.ListN.{length, getD, drop}
 use Rattle.std.specs.Written.{decimal}
 use Rattle.std.proofs.shelf.Tests.{eqb-true, eqb-false}
-use Rattle.std.proofs.shelf.Lists.{append-assoc}
-use Rattle.syntax.specs.Grammar.{Stop, Want, Part, Kind, byte, wants, words, more, shut, sep, parts, row, spelling, last, sort-of}
-use Rattle.syntax.specs.Grammar.Stop.{space, close, line}
-use Rattle.syntax.specs.Grammar.Want.{stop, number, digits, item, word}
+use Rattle.syntax.specs.Grammar.{Stop, Want, Part, byte, wants, words, more, shut, sep, parts, row, spelling, last, sort-of}
+use Rattle.syntax.specs.Grammar.Stop.{close, line}
+use Rattle.syntax.specs.Grammar.Want.{stop, number, item}
 use Rattle.syntax.specs.Grammar.Part.{num, sub}
-use Rattle.syntax.specs.Grammar.Kind.{type, world, term}
 use Rattle.syntax.specs.Texts.{In, Text, shown}
 use Rattle.syntax.specs.Texts.In.{here, there}
-use Rattle.syntax.specs.Texts.Text.{end, past, nought, some, rest, pick, spell}
+use Rattle.syntax.specs.Texts.Text.{end, past, nought, some, pick}
 use Rattle.syntax.specs.Trees.{Parts, Prog, Fit, stop-of, inside, written, station-parts, run-parts, stations-text, print, Each, Right}
 use Rattle.syntax.specs.Trees.Parts.{none, number as number′, form}
 use Rattle.syntax.specs.declared.grammar.Form.{Form}
 use Rattle.syntax.specs.declared.grammar.Form.the-variants.{Station, Run}
 use Rattle.syntax.specs.declared.grammar.Sort.{Sort}
-use Rattle.syntax.specs.declared.grammar.Sort.the-variants.{Types, Worlds, Terms, First, Further}
+use Rattle.syntax.specs.declared.grammar.Sort.the-variants.{First, Further}
 use Rattle.instruments.specs.declared.sheet.Station.{Station as Counts}
 use Rattle.syntax.proofs.Rows.{listed, spelt, inner}
 use Rattle.syntax.proofs.Numbers.{head}

@@ -2,20 +2,17 @@
 use mathlib.Core.Path.{_≡_, refl, sym, ap, _∙_, subst}
 use mathlib.Core.List.{List, [], _∷_, _++_}
 use mathlib.Core.Bool.{Bool, true, false, cond, _&&_, not}
-use mathlib.Core.Logic.{_⊎_, inl, inr, ⊎-elim}
 use Prim.Native.Nat.{ℕ, _+_, _*_, _-_, _<_, _≤_}
 use native.Mathlib.Omega.{arith}
 use lib.Dec.{eqb, ltb, leb}
 use lib.ListN.{length}
-use Rattle.std.proofs.shelf.Tests.{eq-eqb, ne-eqb, eqb-true, lt-ltb, both-ways, cases-bool, and-parts, not-true, and-right, and-from}
+use Rattle.std.proofs.shelf.Tests.{eq-eqb, ne-eqb, eqb-true, lt-ltb, both-ways, and-parts, not-true, and-from}
 use Rattle.syntax.specs.Grammar.{Stop, Want, byte, wants, words}
 use Rattle.syntax.specs.Grammar.Stop.{space, close, line}
 use Rattle.syntax.specs.Grammar.Want.{stop, number, digits, item, word}
-use Rattle.syntax.specs.Reading.{Seen, Move, Outcome, go, step, after, began, spelled, digit, over, full, begun, many, passed, push, counted}
+use Rattle.syntax.specs.Reading.{Seen, Move, step, after, began, spelled, digit, full, begun, many, passed, push, counted}
 use Rattle.syntax.specs.Reading.Move.{on, off}
-use Rattle.syntax.specs.Reading.Outcome.{done, refused}
-use Rattle.syntax.proofs.Steps.{go-cons, moved}
-use Rattle.syntax.specs.Texts.{In, Digits, valued, begins, Far, Apart, Text, shown, New, new-item, new-number, noted, places}
+use Rattle.syntax.specs.Texts.{In, valued, begins, Far, Apart, Text, shown, New, new-item, new-number, noted, places}
 use Rattle.syntax.specs.Texts.In.{here, there}
 use Rattle.syntax.specs.Texts.Text.{end, past, nought, some, rest, pick, spell}
 use Rattle.syntax.specs.declared.grammar.Form.{Form}

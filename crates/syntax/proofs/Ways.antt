@@ -1,39 +1,28 @@
 -- What a text has begun where reading it has come.
 use mathlib.Core.Path.{_≡_, refl, sym, ap, _∙_, subst}
 use mathlib.Core.List.{List, [], _∷_, _++_}
-use mathlib.Core.Bool.{Bool, true, false, cond, _&&_, not}
-use mathlib.Core.Logic.{_⊎_, inl, inr, ⊎-elim}
-use Prim.Native.Nat.{ℕ, _+_, _*_, _-_, _<_, _≤_}
+use mathlib.Core.Bool.{Bool, true, false, cond}
+use Prim.Native.Nat.{ℕ, _+_, _-_, _<_, _≤_}
 use native.Mathlib.Omega.{arith}
-use lib.Dec.{eqb, ltb, leb}
+use lib.Dec.{eqb}
 use lib.ListN.{length, take}
-use lib.Chars.{codes}
-use Rattle.std.proofs.shelf.Tests.{eqb-true, eqb-false, ltb-true, ltb-false, leb-true, leb-false, le-leb, lt-leb, and-parts, and-from, and-cases, not-true, both-ways}
-use Rattle.std.proofs.shelf.Lists.{append-assoc, append-nil, length-push, length-append, length-set}
-use Rattle.syntax.specs.Grammar.{Stop, Want, Part, Kind, Made, byte, wants, words, more, shut, sep, parts, row, spelling, last, sort-of, width}
+use Rattle.std.proofs.shelf.Tests.{leb-false}
+use Rattle.std.proofs.shelf.Lists.{append-assoc, append-nil, length-push}
+use Rattle.syntax.specs.Grammar.{Stop, Want, wants, parts, row, last, width}
 use Rattle.syntax.specs.Grammar.Stop.{space, close, line}
 use Rattle.syntax.specs.Grammar.Want.{stop, number, digits, item, word}
-use Rattle.syntax.specs.Grammar.Part.{num, sub}
-use Rattle.syntax.specs.Grammar.Kind.{type, world, term}
-use Rattle.syntax.specs.Grammar.Made.{a-type, a-world, a-term, a-station, a-start}
-use Rattle.syntax.specs.Reading.{Seen, Move, Outcome, go, step, over, read, start-none, after, began, spelled, digit, full, begun, many, passed, push, counted, opened, at-depth, settled}
+use Rattle.syntax.specs.Reading.{Seen, Move, step, full, begun, passed, push, opened, at-depth}
 use Rattle.syntax.specs.Reading.Move.{on, off}
-use Rattle.syntax.specs.Reading.Outcome.{done, refused}
-use Rattle.syntax.specs.Trees.{one-type, one-term}
-use Rattle.syntax.specs.Texts.{In, Text, shown, Digits, valued, New, new-item, new-number, noted, places}
+use Rattle.syntax.specs.Texts.{Text, shown, New, new-item, noted, places}
 use Rattle.syntax.specs.Texts.New.{new-line, new-count, new-term, new-type}
-use Rattle.syntax.specs.declared.grammar.Form.{Form}
 use Rattle.syntax.specs.declared.grammar.Sort.{Sort}
 use Rattle.syntax.specs.declared.grammar.Sort.the-variants.{Types, Worlds, Terms, First, Further}
-use Rattle.syntax.proofs.Steps.{go-cons, moved}
 use Rattle.syntax.proofs.Theory.{Follows, takes, beyond, mark, places-first}
 use Rattle.syntax.proofs.Sound.{Plain, Fine, plain-wants}
 use Rattle.syntax.proofs.Forms.{begun-sizes, settled-sizes}
-use Rattle.syntax.proofs.Rows.{in-kind, inner}
-use Rattle.syntax.specs.Texts.In.{here, there}
 use Rattle.syntax.proofs.Reach.{Stepped, Reach, held, step-is}
 use Rattle.syntax.proofs.Reach.Reach.{begin, next}
-use Rattle.syntax.proofs.Begun.{Lined, Lines, line-step}
+use Rattle.syntax.proofs.Begun.{Lined, line-step}
 use Rattle.syntax.specs.Refusals.{Whole as Text-whole}
 use Rattle.syntax.proofs.Reach.Stepped.{wrong, stopped, zeroed, digited, numbered, longer, passes, deeper, fuller, started, whole, letter, crowded}
 
@@ -132,12 +121,12 @@ abbrev pub Below : ℕ → List ℕ → Type 0
 Below n [] = Unit {0}
 Below n (i ∷ l) = (i < n) × Below n l
 
-below-push : (n m : ℕ) (l : List ℕ) (b : Bool) → n < m → Below n l → Below m (l ++ noted b n [])
+pub below-push : (n m : ℕ) (l : List ℕ) (b : Bool) → n < m → Below n l → Below m (l ++ noted b n [])
 below-push n m [] true h k = (h, tt)
 below-push n m [] false h k = tt
 below-push n m (i ∷ l) b h k = (omega (arith, k .0), below-push n m l b h (k .1))
 
-noted-first : (b : Bool) (i : ℕ) (l : List ℕ) → noted b i l ≡ noted b i [] ++ l
+pub noted-first : (b : Bool) (i : ℕ) (l : List ℕ) → noted b i l ≡ noted b i [] ++ l
 noted-first true i l = refl
 noted-first false i l = refl
 

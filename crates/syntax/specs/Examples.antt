@@ -1,18 +1,16 @@
 -- Programs as trees: their texts and tables.
 use mathlib.Core.Path.{_≡_, refl}
-use mathlib.Core.List.{List, [], _∷_, _++_}
+use mathlib.Core.List.{[], _∷_, _++_}
 use Rattle.syntax.specs.Reading.{read, go}
 use Rattle.syntax.specs.Reading.Outcome.{done, refused}
-use Prim.Native.Nat.{ℕ}
 use lib.Chars.{codes}
 use Rattle.std.specs.Written.{digits}
-use Rattle.syntax.specs.Trees.{Parts, Prog, print, table, Tables}
+use Rattle.syntax.specs.Trees.{Parts, Prog, print, table}
 use Rattle.syntax.specs.Trees.Parts.{none, number, form}
-use Rattle.syntax.specs.declared.grammar.Form.{Form}
 use Rattle.syntax.specs.declared.grammar.Form.the-variants.{TNum, TBox, TAt, Site, Bound, Val, Lam, Letd, Getb, Getn, Gauge, Gate}
 use Rattle.syntax.specs.declared.program.Ty.the-variants.{Num as Ty·Num, Never as Ty·Never, Fn as Ty·Fn, Boxed as Ty·Boxed, At as Ty·At}
 use Rattle.syntax.specs.declared.program.World.the-variants.{Site as World·Site, Bound as World·Bound}
-use Rattle.syntax.specs.declared.program.Mobile.the-variants.{Code, Address, Number}
+use Rattle.syntax.specs.declared.program.Mobile.the-variants.{Code, Number}
 use Rattle.syntax.specs.declared.program.Term.the-variants.{Num as Term·Num, Value as Term·Value, Lam as Term·Lam, App as Term·App, Here as Term·Here, Letd as Term·Letd, Get as Term·Get, Letcc as Term·Letcc, Throw as Term·Throw, Go as Term·Go, Gauge as Term·Gauge, Gate as Term·Gate}
 
 abbrev one : Prog

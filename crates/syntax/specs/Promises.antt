@@ -1,20 +1,14 @@
 -- What is promised of every text, in the grammar's words.
 use mathlib.Core.Path.{_≡_}
-use mathlib.Core.List.{List, [], _∷_, _++_}
-use mathlib.Core.Logic.{_⊎_}
-use Prim.Native.Nat.{ℕ, _+_, _≤_, _<_}
-use mathlib.Core.Bool.{cond}
-use lib.Dec.{eqb}
+use mathlib.Core.List.{List, [], _++_}
+use Prim.Native.Nat.{ℕ, _+_, _≤_}
 use lib.ListN.{length}
-use Rattle.syntax.specs.Grammar.{Want}
-use Rattle.syntax.specs.Grammar.Want.{item}
 use Rattle.syntax.specs.Reading.{Seen, read}
 use Rattle.syntax.specs.Reading.Outcome.{done, refused}
-use Rattle.syntax.specs.Texts.{Text, shown, Digits, valued}
-use Rattle.syntax.specs.Trees.{Prog, Right, Limits, Tables, print, table, tables, Each, deep, terms, types}
-use Rattle.syntax.specs.Refusals.{Whole, Holds, Given}
+use Rattle.syntax.specs.Texts.{shown, New}
+use Rattle.syntax.specs.Trees.{Prog, Right, Limits, print, table, tables, Each, deep, terms, types}
+use Rattle.syntax.specs.Refusals.{Whole, Nth, Holds, Given}
 use Rattle.syntax.specs.Sound.{Sound, Low}
-use Rattle.syntax.specs.declared.grammar.Sort.the-variants.{First}
 
 -- A text is refused by n at p exactly if that refusal holds of it and comes before all others that hold.
 abbrev pub Refused-exactly : Type 0
@@ -27,6 +21,10 @@ Accepted-exactly = (bs : List ℕ) → ((s : Seen) → read bs ≡ done s → (n
 -- The texts of the grammar are the texts of the programs.
 abbrev pub One-grammar : Type 0
 One-grammar = ((t : Whole) → (p : Prog) × (Right p × (print p ≡ shown t))) × ((p : Prog) → Right p → (t : Whole) × (shown t ≡ print p))
+
+-- What begins at a place of a text, and how many began before it, depends on the bytes before that place alone.
+abbrev pub One-count : Type 0
+One-count = (x : New) (n : ℕ) (t u : Whole) (before a b : List ℕ) → shown t ≡ before ++ a → shown u ≡ before ++ b → Nth x n t (length before) → Nth x n u (length before)
 
 -- bs is the text of the program p, which keeps the limits
 pub record Texts (bs : List ℕ) (p : Prog) : Type 0 where
