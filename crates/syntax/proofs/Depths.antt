@@ -1,46 +1,43 @@
--- Refusal 12: the brackets that are open where it stands.
+-- The brackets that are open wherever reading has come.
 use mathlib.Core.Path.{_≡_, refl, sym, ap, _∙_, subst}
 use mathlib.Core.List.{List, [], _∷_, _++_}
 use mathlib.Core.Bool.{Bool, true, false, cond, _&&_, not}
 use mathlib.Core.Logic.{_⊎_, inl, inr, ⊎-elim}
-use Prim.Native.Nat.{ℕ, _+_, _*_, _-_, _<_, _≤_}
+use Prim.Native.Nat.{ℕ, _+_, _*_, _-_, _≤_}
 use native.Mathlib.Omega.{arith}
 use lib.Dec.{eqb, ltb, leb}
-use lib.ListN.{length, getD, drop, take}
-use Rattle.std.proofs.shelf.Tests.{eqb-true, eqb-false, ne-eqb, leb-true, leb-false, both-ways, and-parts, and-cases, not-true}
-use Rattle.std.proofs.shelf.Lists.{append-assoc, append-nil, length-push}
-use Rattle.syntax.specs.Grammar.{Stop, Want, Part, byte, wants, words, more, shut, sep, parts, row, spelling, last, spelled-out, forms, width}
+use lib.ListN.{getD, drop, take}
+use Rattle.std.proofs.shelf.Tests.{eqb-true, ne-eqb, leb-true, leb-false, and-parts, not-true}
+use Rattle.std.proofs.shelf.Lists.{append-assoc}
+use Rattle.syntax.specs.Grammar.{Stop, Want, Part, byte, wants, words, more, shut, parts, row, spelling, last, spelled-out, forms, width}
 use Rattle.syntax.specs.Grammar.Stop.{space, close, line}
 use Rattle.syntax.specs.Grammar.Want.{stop, number, digits, item, word}
 use Rattle.syntax.specs.Grammar.Part.{num, sub}
-use Rattle.syntax.specs.Reading.{Seen, Move, Outcome, go, step, over, read, start-none, after, began, spelled, digit, full, begun, many, passed, push, counted, opened, at-depth}
+use Rattle.syntax.specs.Reading.{Seen, Move, step, start-none, after, began, spelled, digit, full, begun, many, passed, push, counted, at-depth}
 use Rattle.syntax.specs.Reading.Move.{on, off}
-use Rattle.syntax.specs.Reading.Outcome.{done, refused}
 use Rattle.syntax.specs.Texts.{Text, shown}
-use Rattle.syntax.specs.Promises.{tally, Deep, Deep-right}
+use Rattle.syntax.specs.Refusals.{tally}
 use Rattle.syntax.specs.declared.grammar.Form.{Form}
 use Rattle.syntax.specs.declared.grammar.Form.the-variants.{TNum, TNone, TFn, TBox, TAt, TBoth, Site, Bound, Num, Val, Lam, App, Boxed, Unbox, Here, Letd, Getb, Getd, Getn, Pair, Fst, Snd, Letcc, Throw, Go, Gauge, Gate, Below, Station, Run}
 use Rattle.syntax.specs.declared.grammar.Sort.{Sort}
-use Rattle.syntax.specs.declared.grammar.Sort.the-variants.{Types, Worlds, Terms, First, Further}
-use Rattle.syntax.proofs.Steps.{go-cons, moved}
+use Rattle.syntax.specs.declared.grammar.Sort.the-variants.{First}
 use Rattle.syntax.proofs.Rows.{spelt}
-use Rattle.syntax.proofs.Sound.{Plain, Fine, Sound, step-sound, plain-wants, from-after}
-use Rattle.syntax.proofs.Places.{complete}
+use Rattle.syntax.proofs.Sound.{Plain, Fine, Sound, plain-wants}
 use Rattle.syntax.proofs.Forms.{begun-sizes, settled-sizes}
 
-abbrev is : ℕ → ℕ → ℕ
+abbrev pub is : ℕ → ℕ → ℕ
 is b c = cond (eqb c b) 1 0
 
-abbrev bit : Form → ℕ
+abbrev pub bit : Form → ℕ
 bit f = cond (eqb (last f) 41) 1 0
 
 -- the brackets that what is wanted will close
-abbrev shuts : Stop → ℕ
+abbrev pub shuts : Stop → ℕ
 shuts space = 0
 shuts (close f) = bit f
 shuts line = 0
 
-abbrev closers : List Want → ℕ
+abbrev pub closers : List Want → ℕ
 closers [] = 0
 closers (stop a ∷ ws) = shuts a + closers ws
 closers (number k a ∷ ws) = shuts a + closers ws
@@ -49,11 +46,11 @@ closers (item o ∷ ws) = closers ws
 closers (word o ks ∷ ws) = closers ws
 
 -- the bracket of a word that is half read
-abbrev half : List (List ℕ × Form) → ℕ
+abbrev pub half : List (List ℕ × Form) → ℕ
 half [] = 0
 half ((w, f) ∷ ks) = bit f
 
-abbrev pend : List Want → ℕ
+abbrev pub pend : List Want → ℕ
 pend [] = 0
 pend (stop a ∷ ws) = 0
 pend (number k a ∷ ws) = 0
@@ -61,15 +58,15 @@ pend (digits k p v a ∷ ws) = 0
 pend (item o ∷ ws) = 0
 pend (word o ks ∷ ws) = half ks
 
-abbrev plain : List ℕ → Bool
+abbrev pub plain : List ℕ → Bool
 plain [] = true
 plain (x ∷ w) = not (eqb x 40) && (not (eqb x 41) && plain w)
 
-abbrev Neat : Bool → List (List ℕ × Form) → Type 0
+abbrev pub Neat : Bool → List (List ℕ × Form) → Type 0
 Neat b [] = Unit {0}
 Neat b ((w, f) ∷ ks) = (plain w ≡ true) × (eqb (last f) 41 ≡ b) × Neat b ks
 
-abbrev Clean : List Want → Type 0
+abbrev pub Clean : List Want → Type 0
 Clean [] = Unit {0}
 Clean (stop a ∷ ws) = Unit {0}
 Clean (number k a ∷ ws) = Unit {0}
@@ -162,7 +159,7 @@ tidy Below = (refl, refl)
 tidy Station = (refl, refl)
 tidy Run = (refl, refl)
 
-not-open : (a : Stop) → eqb (byte a) 40 ≡ false
+pub not-open : (a : Stop) → eqb (byte a) 40 ≡ false
 not-open space = refl
 not-open line = refl
 not-open (close TNum) = refl
@@ -216,7 +213,7 @@ first-after c (f ∷ fs) =
         ((tidy f .0, sym (spelt f .1) ∙ ap (λ (x : ℕ). eqb x 40) (sym q), r .0), inr (ap (λ (x : ℕ). eqb x 41) q ∙ tidy f .1))
     at false e r = r
 
-neat-after : (b : Bool) (c : ℕ) (ks : List (List ℕ × Form)) → Neat b ks → Neat b (after c ks) × ((after c ks ≡ []) ⊎ ((eqb c 40 ≡ false) × (eqb c 41 ≡ false)))
+pub neat-after : (b : Bool) (c : ℕ) (ks : List (List ℕ × Form)) → Neat b ks → Neat b (after c ks) × ((after c ks ≡ []) ⊎ ((eqb c 40 ≡ false) × (eqb c 41 ≡ false)))
 neat-after b c [] h = (tt, inl refl)
 neat-after b c (([], f) ∷ ks) h = neat-after b c ks (h .2)
 neat-after b c ((x ∷ w, f) ∷ ks) h = at (eqb c x) refl (neat-after b c ks (h .2))
@@ -235,7 +232,7 @@ neat-half b c [] h n = absurd (n refl)
 neat-half b c ((w, f) ∷ ks) h n = ap (λ (x : Bool). cond x 1 0) (h .1)
 
 -- what a step keeps
-abbrev Keeps : List Want → Seen → ℕ → Move → Type 0
+abbrev pub Keeps : List Want → Seen → ℕ → Move → Type 0
 Keeps ws s c (on vs q) = Clean vs × (closers vs ≡ q .depth) × (is 40 c + (closers ws + pend ws) ≡ is 41 c + (closers vs + pend vs)) × (s .depth + pend ws ≤ 64 → q .depth + pend vs ≤ 64)
 Keeps ws s c (off n p) = Unit {0}
 
@@ -261,7 +258,7 @@ at-stop a ws s c w p e z d q =
     let k = passed-depth a s (closers ws) (sym e ∙ d) in
     (pp .1, sym k, omega (arith, pp .0, n0, n1, e, z), λ h. omega (arith, pp .0, k, e, d, h))
 
-no-bracket : (c : ℕ) → digit c ≡ true → (is 40 c ≡ 0) × (is 41 c ≡ 0)
+pub no-bracket : (c : ℕ) → digit c ≡ true → (is 40 c ≡ 0) × (is 41 c ≡ 0)
 no-bracket c h =
     let z = and-parts (leb 48 c) (leb c 57) h in
     let y = leb-true 48 c (z .0) in
@@ -313,7 +310,7 @@ spelled-keeps o ks b ws s i c ((x ∷ v, f) ∷ l) p h z g d =
     keeps-cond (word o ks ∷ ws) s c (many o c s) (off 14 (i - 1)) (on (word o k ∷ ws) s) (λ e. tt)
       (λ e. ((b, h), d, omega (arith, n0, n1, hk, hf), λ q. omega (arith, q, hk, hf)))
 
-step-keeps : (ws : List Want) (s : Seen) (i c : ℕ) → Fine ws → Clean ws → closers ws ≡ s .depth → Keeps ws s c (step ws s i c)
+pub step-keeps : (ws : List Want) (s : Seen) (i c : ℕ) → Fine ws → Clean ws → closers ws ≡ s .depth → Keeps ws s c (step ws s i c)
 step-keeps [] s i c p h d = tt
 step-keeps (stop a ∷ ws) s i c p h d =
     keeps-cond (stop a ∷ ws) s c (eqb c (byte a)) (on ws (passed a s)) (off 11 i) (λ e. at-stop a ws s c (stop a) p refl refl d (eqb-true c (byte a) e)) (λ e. tt)
@@ -348,96 +345,11 @@ pub record Inv (before : List ℕ) (ws : List Want) (s : Seen) : Type 0 where
   pub count : tally 40 before ≡ tally 41 before + (closers ws + pend ws)
   pub from : (u : Text ws) → (t : Text (item First ∷ [])) × (shown t ≡ before ++ shown u)
 
-inv-start : Inv [] (item First ∷ []) start-none
+pub inv-start : Inv [] (item First ∷ []) start-none
 inv-start = record { fine = tt; clean = tt; depth = refl; low = omega arith; count = refl; from = λ u. (u, refl) }
 
-inv-step : (before : List ℕ) (ws : List Want) (s : Seen) (i c : ℕ) (vs : List Want) (q : Seen) → Inv before ws s → Sound ws i c (on vs q) → Keeps ws s c (on vs q) → Inv (before ++ c ∷ []) vs q
+pub inv-step : (before : List ℕ) (ws : List Want) (s : Seen) (i c : ℕ) (vs : List Want) (q : Seen) → Inv before ws s → Sound ws i c (on vs q) → Keeps ws s c (on vs q) → Inv (before ++ c ∷ []) vs q
 inv-step before ws s i c vs q v g k =
     record { fine = g .0; clean = k .0; depth = k .1; low = k .3 (v .low);
       count = omega (arith, tally-push 40 before c, tally-push 41 before c, v .count, k .2);
       from = λ u. let t = g .1 u in let r = v .from (t .0) in (r .0, r .1 ∙ ap (λ (x : List ℕ). before ++ x) (t .1) ∙ sym (append-assoc before (c ∷ []) (shown u))) }
-
--- only a bracket too deep is refused by 12
-abbrev Twelve : List Want → Seen → ℕ → ℕ → Move → Type 0
-Twelve ws s i c (on vs q) = Unit {0}
-Twelve ws s i c (off n p) = n ≡ 12 → (p ≡ i) × (c ≡ 40) × (64 ≤ s .depth) × (pend ws ≡ 0) × ((t : Text ws) × ((y : List ℕ) × (shown t ≡ c ∷ y)))
-
-twelve-cond : (ws : List Want) (s : Seen) (i c : ℕ) (b : Bool) (m n : Move) → (b ≡ true → Twelve ws s i c m) → (b ≡ false → Twelve ws s i c n) → Twelve ws s i c (cond b m n)
-twelve-cond ws s i c true m n h k = h refl
-twelve-cond ws s i c false m n h k = k refl
-
-empty-full : (o : Sort) → full o start-none ≡ false
-empty-full Types = refl
-empty-full Worlds = refl
-empty-full Terms = refl
-empty-full First = refl
-empty-full Further = refl
-
-alive-at : (o : Sort) (ws : List Want) (x : List ℕ × Form) (l : List (List ℕ × Form)) → Plain ws → after 40 (words o) ≡ x ∷ l → (t : Text (item o ∷ ws)) × ((y : List ℕ) × (shown t ≡ 40 ∷ y))
-alive-at o ws x l p e =
-    let g : Sound (item o ∷ ws) 0 40 (began o (x ∷ l) ws start-none 0 40) = subst (λ (k : List (List ℕ × Form)). Sound (item o ∷ ws) 0 40 (began o k ws start-none 0 40)) e (step-sound (item o ∷ ws) start-none 0 40 p) in
-    let h : Sound (item o ∷ ws) 0 40 (on (word o (x ∷ l) ∷ ws) (begun o start-none)) = subst (λ (b : Bool). Sound (item o ∷ ws) 0 40 (cond b (off 13 0) (on (word o (x ∷ l) ∷ ws) (begun o start-none)))) (empty-full o) g in
-    let u : Text (word o (x ∷ l) ∷ ws) = complete (word o (x ∷ l) ∷ ws) (h .0) in
-    let t = h .1 u in
-    (t .0, (shown u, t .1))
-
-began-twelve : (o : Sort) (ws : List Want) (s : Seen) (i c : ℕ) (l : List (List ℕ × Form)) → Plain ws → after c (words o) ≡ l → Twelve (item o ∷ ws) s i c (began o l ws s i c)
-began-twelve o ws s i c [] p e = λ n. absurd (omega arith)
-began-twelve o ws s i c (x ∷ l) p e =
-    twelve-cond (item o ∷ ws) s i c (eqb c 40 && leb 64 (s .depth)) (off 12 i) (cond (full o s) (off 13 i) (on (word o (x ∷ l) ∷ ws) (begun o s)))
-      (λ b n. let z = and-parts (eqb c 40) (leb 64 (s .depth)) b in
-        let q : c ≡ 40 = eqb-true c 40 (z .0) in
-        let a = alive-at o ws x l p (ap (λ (y : ℕ). after y (words o)) (sym q) ∙ e) in
-        (refl, q, leb-true 64 (s .depth) (z .1), refl, (a .0, (a .1 .0, a .1 .1 ∙ ap (λ (y : ℕ). y ∷ a .1 .0) (sym q)))))
-      (λ b. twelve-cond (item o ∷ ws) s i c (full o s) (off 13 i) (on (word o (x ∷ l) ∷ ws) (begun o s)) (λ e′ n. absurd (omega arith)) (λ e′. tt))
-
-spelled-twelve : (o : Sort) (ks : List (List ℕ × Form)) (ws : List Want) (s : Seen) (i c : ℕ) (l : List (List ℕ × Form)) → Twelve (word o ks ∷ ws) s i c (spelled o l ws s i c)
-spelled-twelve o ks ws s i c [] = λ n. absurd (omega arith)
-spelled-twelve o ks ws s i c (([], f) ∷ l) = tt
-spelled-twelve o ks ws s i c ((b ∷ w, f) ∷ l) = twelve-cond (word o ks ∷ ws) s i c (many o c s) (off 14 (i - 1)) (on (word o ((b ∷ w, f) ∷ l) ∷ ws) s) (λ e n. absurd (omega arith)) (λ e. tt)
-
-step-twelve : (ws : List Want) (s : Seen) (i c : ℕ) → Fine ws → Twelve ws s i c (step ws s i c)
-step-twelve [] s i c p = λ n. absurd (omega arith)
-step-twelve (stop a ∷ ws) s i c p = twelve-cond (stop a ∷ ws) s i c (eqb c (byte a)) (on ws (passed a s)) (off 11 i) (λ e. tt) (λ e n. absurd (omega arith))
-step-twelve (number k a ∷ ws) s i c p =
-    twelve-cond (number k a ∷ ws) s i c (eqb c 48) (on (stop a ∷ ws) (push 0 s)) (cond (digit c) (on (digits k i (c - 48) a ∷ ws) s) (off 11 i)) (λ e. tt)
-      (λ e. twelve-cond (number k a ∷ ws) s i c (digit c) (on (digits k i (c - 48) a ∷ ws) s) (off 11 i) (λ e′. tt) (λ e′ n. absurd (omega arith)))
-step-twelve (digits k j v a ∷ ws) s i c p =
-    let m : ℕ = v * 10 + (c - 48) in
-    twelve-cond (digits k j v a ∷ ws) s i c (eqb c (byte a)) (on ws (passed a (push v s))) (cond (digit c && ltb m 65536) (cond (counted k m) (off 14 j) (on (digits k j m a ∷ ws) s)) (off 11 i)) (λ e. tt)
-      (λ e. twelve-cond (digits k j v a ∷ ws) s i c (digit c && ltb m 65536) (cond (counted k m) (off 14 j) (on (digits k j m a ∷ ws) s)) (off 11 i)
-        (λ e′. twelve-cond (digits k j v a ∷ ws) s i c (counted k m) (off 14 j) (on (digits k j m a ∷ ws) s) (λ g n. absurd (omega arith)) (λ g. tt)) (λ e′ n. absurd (omega arith)))
-step-twelve (item o ∷ ws) s i c p = began-twelve o ws s i c (after c (words o)) p refl
-step-twelve (word o ks ∷ ws) s i c p = spelled-twelve o ks ws s i c (after c ks)
-
-deep-at : (bs before : List ℕ) (ws : List Want) (s : Seen) (p : ℕ) → Inv before ws s → go bs ws s (length before) ≡ refused 12 p → Deep (before ++ bs) p
-unfolding go
-deep-at [] before ws s p v h = at ws h
-  where
-    at : (vs : List Want) → over vs s (length before) ≡ refused 12 p → Deep (before ++ []) p
-    at [] e = absurd (let z : _≡_ {A = ℕ} 0 1 = cc in omega arith)
-    at (w ∷ vs) e = absurd (let z : _≡_ {A = ℕ} 11 12 = cc in omega arith)
-deep-at (c ∷ bs) before ws s p v h =
-    at (step ws s (length before) c) (step-sound ws s (length before) c (v .fine)) (step-keeps ws s (length before) c (v .fine) (v .clean) (v .depth)) (step-twelve ws s (length before) c (v .fine))
-      (sym (go-cons c bs ws s (length before)) ∙ h) (λ vs q w e. deep-at bs (before ++ c ∷ []) vs q p w e)
-  where
-    at : (m : Move) → Sound ws (length before) c m → Keeps ws s c m → Twelve ws s (length before) c m → moved bs (length before) m ≡ refused 12 p →
-      ((vs : List Want) (q : Seen) → Inv (before ++ c ∷ []) vs q → go bs vs q (length (before ++ c ∷ [])) ≡ refused 12 p → Deep ((before ++ c ∷ []) ++ bs) p) → Deep (before ++ c ∷ bs) p
-    at (on vs q) g k t e r =
-        subst (λ (x : List ℕ). Deep x p) (append-assoc before (c ∷ []) bs)
-          (r vs q (inv-step before ws s (length before) c vs q v g k) (ap (go bs vs q) (length-push before c) ∙ e))
-    at (off n q) g k t e r =
-        let n-is : n ≡ 12 = cc in
-        let q-is : q ≡ p = cc in
-        let z = t n-is in
-        let f = v .from (z .4 .0) in
-        record { before = before; after = bs; split = ap (λ (x : ℕ). before ++ x ∷ bs) (z .1); place = sym q-is ∙ z .0;
-          inside = omega (arith, v .count, v .depth, v .low, z .2, z .3);
-          text = f .0; more = z .4 .1 .0; alive = f .1 ∙ ap (λ (x : List ℕ). before ++ x) (z .4 .1 .1) ∙ ap (λ (x : ℕ). before ++ x ∷ z .4 .1 .0) (z .1) }
-
-short-twelve : (b : Bool) (o : Outcome) (p : ℕ) → cond b (refused 10 65536) o ≡ refused 12 p → o ≡ refused 12 p
-short-twelve true o p e = absurd (let z : _≡_ {A = ℕ} 10 12 = cc in omega arith)
-short-twelve false o p e = e
-
-pub deep-right : Deep-right
-deep-right bs p e = deep-at bs [] (item First ∷ []) start-none p inv-start (short-twelve (ltb 65536 (length bs)) _ p e)

@@ -2,46 +2,30 @@
 use mathlib.Core.Path.{_≡_, refl, sym, ap, _∙_, subst}
 use mathlib.Core.List.{List, [], _∷_, _++_}
 use mathlib.Core.Bool.{Bool, true, false, cond}
-use Prim.Native.Nat.{ℕ, _+_, _<_, _≤_}
+use Prim.Native.Nat.{ℕ, _≤_}
 use native.Mathlib.Omega.{arith}
 use lib.Dec.{ltb}
-use lib.ListN.{length, drop, take}
+use lib.ListN.{length}
 use Rattle.std.proofs.shelf.Tests.{ltb-false, ltb-true, le-ltb}
-use Rattle.std.proofs.shelf.Lists.{append-nil}
-use Rattle.syntax.specs.Grammar.{Part, parts}
 use Rattle.syntax.specs.Grammar.Stop.{close}
 use Rattle.syntax.specs.Grammar.Want.{item}
-use Rattle.syntax.specs.Grammar.Part.{num, sub}
+use Rattle.syntax.specs.Grammar.Part.{sub}
 use Rattle.syntax.specs.Grammar.Kind.{term}
-use Rattle.syntax.specs.Reading.{Seen, Outcome, go, over, read, start-none, passed, opened, push}
+use Rattle.syntax.specs.Reading.{Seen, Outcome, go, read, start-none, passed}
 use Rattle.syntax.specs.Reading.Outcome.{done, refused}
-use Rattle.syntax.specs.Texts.{Text, shown}
-use Rattle.syntax.specs.Trees.{Parts, Prog, Right, Limits, Each, Fit, print, run-parts, table, tables, values, ty-rows, tm-rows}
-use Rattle.syntax.specs.Trees.Parts.{none, number as number′, form}
+use Rattle.syntax.specs.Trees.{Prog, Right, Limits, print, tables, values, ty-rows, tm-rows}
 use Rattle.syntax.specs.Promises.{Texts, whole, Read-right, Read-all, Read-one, Restored, Broken, Limit-right}
 use Rattle.syntax.specs.Promises.Broken.{long-broken, deep-broken, many-broken, sheet-broken}
 use Rattle.syntax.specs.declared.grammar.Form.the-variants.{Run}
 use Rattle.syntax.specs.declared.grammar.Sort.the-variants.{First}
-use Rattle.instruments.specs.declared.sheet.Station.{Station as Counts}
-use Rattle.syntax.proofs.Runs.{Cap, refusal, State, from, at, Runs}
+use Rattle.syntax.proofs.Runs.{Cap, refusal, at, Runs}
 use Rattle.syntax.proofs.Runs.Cap.{deeps, manies, sheets}
 use Rattle.syntax.proofs.Runs.Runs.{runs, ends}
-use Rattle.syntax.proofs.Forms.{put, Room}
-use Rattle.syntax.proofs.Lines.{with-stations, final, Caps, prog-run}
+use Rattle.syntax.proofs.Lines.{final, Caps, prog-run}
 use Rattle.syntax.proofs.Tables.{seen, put-rows, values-width}
 use Rattle.syntax.proofs.Places.{accepted-right, short-done}
 use Rattle.syntax.proofs.Gather.{gathered}
 use Rattle.syntax.proofs.Unique.{unique}
-
-shed : (l : List ℕ) (n : ℕ) → length l ≡ 1 → drop 2 (l ++ n ∷ []) ≡ []
-shed [] n e = absurd (omega arith)
-shed (a ∷ []) n e = refl
-shed (a ∷ b ∷ l) n e = absurd (omega arith)
-
-second : (l : List ℕ) (n : ℕ) → length l ≡ 1 → (x : List ℕ) → take 2 (l ++ n ∷ x) ≡ l ++ n ∷ []
-second [] n e x = absurd (omega arith)
-second (a ∷ []) n e x = refl
-second (a ∷ b ∷ l) n e x = absurd (omega arith)
 
 closing : (vs : List ℕ) (p : Prog) → length vs ≡ 1 →
   passed (close Run) (seen (vs ++ p .start ∷ []) 1 (ty-rows (p .main) 0 0) (tm-rows (p .main) 0 0) (p .stations) 0) ≡ whole p

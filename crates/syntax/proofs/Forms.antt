@@ -2,29 +2,28 @@
 use mathlib.Core.Path.{_≡_, refl, sym, ap, _∙_, subst}
 use mathlib.Core.List.{List, [], _∷_, _++_}
 use mathlib.Core.Bool.{Bool, true, false, cond, _&&_}
-use Prim.Native.Nat.{ℕ, _+_, _*_, _-_, _<_, _≤_, max}
+use Prim.Native.Nat.{ℕ, _+_, _-_, _≤_, max}
 use native.Mathlib.Omega.{arith}
-use lib.Dec.{eqb, ltb, leb}
-use lib.ListN.{length, getD, drop, set, take}
+use lib.Dec.{eqb, leb}
+use lib.ListN.{length, getD, drop, take}
 use Rattle.std.specs.Written.{decimal}
-use Rattle.std.proofs.shelf.Tests.{leb-true, leb-false, le-leb, lt-leb, both-ways}
+use Rattle.std.proofs.shelf.Tests.{leb-false, lt-leb}
 use Rattle.std.proofs.shelf.Lists.{length-set, length-push}
-use Rattle.syntax.specs.Grammar.{Stop, Want, Part, Kind, Made, byte, wants, words, more, shut, sep, parts, row, spelling, last, sort-of, width}
-use Rattle.syntax.specs.Grammar.Stop.{space, close, line}
-use Rattle.syntax.specs.Grammar.Want.{stop, number, digits, item, word}
+use Rattle.syntax.specs.Grammar.{Stop, Want, Part, Kind, Made, byte, words, more, shut, sep, parts, row, spelling, last, sort-of, width}
+use Rattle.syntax.specs.Grammar.Stop.{close}
+use Rattle.syntax.specs.Grammar.Want.{stop, number, item}
 use Rattle.syntax.specs.Grammar.Part.{num, sub}
-use Rattle.syntax.specs.Grammar.Kind.{type, world, term}
 use Rattle.syntax.specs.Grammar.Made.{a-type, a-world, a-term, a-station, a-start}
-use Rattle.syntax.specs.Reading.{Seen, Move, Outcome, go, full, begun, many, passed, push, counted, opened, at-depth, ended, settled}
+use Rattle.syntax.specs.Reading.{Seen, go, full, begun, many, passed, push, counted, opened, at-depth, settled}
 use Rattle.syntax.specs.Texts.{In}
-use Rattle.syntax.specs.Trees.{Parts, Fit, stop-of, inside, written, nested, deep, one-type, one-term, types, terms}
+use Rattle.syntax.specs.Trees.{Parts, Fit, stop-of, inside, written, deep, one-type, one-term, types, terms}
 use Rattle.syntax.specs.Trees.Parts.{none, number as number′, form}
 use Rattle.syntax.specs.declared.grammar.Form.{Form}
 use Rattle.syntax.specs.declared.grammar.Sort.{Sort}
 use Rattle.syntax.specs.declared.grammar.Sort.the-variants.{Types, Worlds, Terms, First, Further}
 use Rattle.syntax.proofs.Rows.{listed, spelt, inner}
-use Rattle.syntax.proofs.Runs.{Cap, On-sheet, sheet-ok, Always, State, from, at, Runs, runs-by, runs-as, runs-then, number-run, stop-run, open-run, Open, free-kind}
-use Rattle.syntax.proofs.Runs.Runs.{runs, ends}
+use Rattle.syntax.proofs.Runs.{Cap, On-sheet, sheet-ok, Always, at, Runs, runs-by, runs-as, runs-then, number-run, stop-run, open-run, Open, free-kind}
+use Rattle.syntax.proofs.Runs.Runs.{runs}
 use Rattle.syntax.proofs.Runs.Cap.{deeps, manies, sheets}
 
 -- what reading parts does to what was seen

@@ -1,22 +1,20 @@
 -- Every text of the grammar is the text of a program.
 use mathlib.Core.Path.{_≡_, refl, sym, ap, _∙_, subst}
 use mathlib.Core.List.{List, [], _∷_, _++_}
-use mathlib.Core.Bool.{Bool, true, false, cond}
 use mathlib.Core.Logic.{_⊎_, inl, inr, ⊎-elim}
-use Prim.Native.Nat.{ℕ, _+_, _-_, _<_, _≤_}
+use Prim.Native.Nat.{ℕ, _-_, _<_}
 use native.Mathlib.Omega.{arith}
 use lib.ListN.{length}
 use Rattle.std.specs.Written.{decimal}
 use Rattle.std.proofs.shelf.Decimals.{decimal-digit}
-use Rattle.syntax.specs.Grammar.{Stop, Want, Part, Kind, byte, wants, words, more, shut, sep, parts, row, spelling, last, sort-of, spelled-out, forms}
-use Rattle.syntax.specs.Grammar.Stop.{space, close, line}
+use Rattle.syntax.specs.Grammar.{Stop, Want, Part, Kind, byte, wants, words, more, shut, sep, parts, row, spelling, last, sort-of}
 use Rattle.syntax.specs.Grammar.Want.{stop, number, digits, item, word}
 use Rattle.syntax.specs.Grammar.Part.{num, sub}
 use Rattle.syntax.specs.Grammar.Kind.{type, world, term}
 use Rattle.syntax.specs.Texts.{In, Text, shown, valued}
 use Rattle.syntax.specs.Texts.In.{here, there}
 use Rattle.syntax.specs.Texts.Text.{end, past, nought, some, rest, pick, spell}
-use Rattle.syntax.specs.Trees.{Parts, Prog, Fit, stop-of, inside, written, station-parts, run-parts, stations-text, print, Each, Right}
+use Rattle.syntax.specs.Trees.{Parts, Prog, Fit, inside, written, station-parts, run-parts, stations-text, print, Each, Right}
 use Rattle.syntax.specs.Trees.Parts.{none, number as number′, form}
 use Rattle.syntax.specs.declared.grammar.Form.{Form}
 use Rattle.syntax.specs.declared.grammar.Form.the-variants.{Station, Run}

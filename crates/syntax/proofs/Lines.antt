@@ -1,28 +1,26 @@
 -- The lines of a program's text.
 use mathlib.Core.Path.{_≡_, refl, sym, ap, _∙_, subst}
 use mathlib.Core.List.{List, [], _∷_, _++_}
-use mathlib.Core.Bool.{Bool, true, false, cond, _&&_}
-use Prim.Native.Nat.{ℕ, _+_, _*_, _-_, _<_, _≤_, max}
+use mathlib.Core.Bool.{Bool, true, false, cond}
+use Prim.Native.Nat.{ℕ, _+_, _-_, _<_, _≤_}
 use native.Mathlib.Omega.{arith}
-use lib.Dec.{eqb, ltb, leb}
+use lib.Dec.{ltb, leb}
 use lib.ListN.{length}
 use lib.Chars.{codes}
 use Rattle.std.proofs.shelf.Tests.{leb-true, leb-false, le-ltb, ltb-false}
 use Rattle.std.proofs.shelf.Lists.{length-push, append-nil, append-assoc}
-use Rattle.syntax.specs.Grammar.{Stop, Want, byte, wants, row, spelling, parts}
+use Rattle.syntax.specs.Grammar.{wants, spelling, parts}
 use Rattle.syntax.specs.Grammar.Stop.{space, close, line}
-use Rattle.syntax.specs.Grammar.Want.{stop, number, digits, item, word}
-use Rattle.syntax.specs.Reading.{Seen, Move, Outcome, go, step, passed, push, opened, start-none, many}
+use Rattle.syntax.specs.Grammar.Want.{stop, number, item, word}
+use Rattle.syntax.specs.Reading.{Seen, go, passed, push, opened, start-none}
 use Rattle.syntax.specs.Reading.Move.{on, off}
-use Rattle.syntax.specs.Reading.Outcome.{done, refused}
-use Rattle.syntax.specs.Trees.{Parts, Prog, Fit, written, station-parts, run-parts, stations-text, print, deep, types, terms, Each, Right}
-use Rattle.syntax.specs.Trees.Parts.{none, number as number′, form}
-use Rattle.syntax.specs.declared.grammar.Form.{Form}
+use Rattle.syntax.specs.Trees.{Prog, Fit, written, station-parts, run-parts, stations-text, print, Each, Right}
+use Rattle.syntax.specs.Trees.Parts.{none, number as number′}
 use Rattle.syntax.specs.declared.grammar.Form.the-variants.{Station, Run}
 use Rattle.syntax.specs.declared.grammar.Sort.the-variants.{First, Further}
 use Rattle.instruments.specs.declared.sheet.Station.{Station as Counts}
 use Rattle.syntax.proofs.Steps.{go-cons, moved}
-use Rattle.syntax.proofs.Runs.{Cap, On-sheet, sheet-ok, sheet-map, Always, State, from, at, Runs, runs-by, runs-as, runs-then, number-run, stop-run}
+use Rattle.syntax.proofs.Runs.{Cap, On-sheet, sheet-ok, sheet-map, at, Runs, runs-by, runs-as, runs-then, number-run, stop-run}
 use Rattle.syntax.proofs.Runs.Runs.{runs, ends}
 use Rattle.syntax.proofs.Runs.Cap.{deeps, manies, sheets}
 use Rattle.syntax.proofs.Forms.{put, parts-run, Room}

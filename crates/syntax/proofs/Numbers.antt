@@ -1,18 +1,16 @@
 -- The digits of a number, and the number that digits are.
 use mathlib.Core.Path.{_≡_, refl, sym, ap, _∙_, subst}
-use mathlib.Core.List.{List, [], _∷_, _++_}
-use mathlib.Core.Bool.{Bool, true, false, cond, _&&_}
-use mathlib.Core.Logic.{_⊎_, inl, inr, ⊎-elim}
+use mathlib.Core.List.{List, [], _∷_}
+use mathlib.Core.Bool.{true}
+use mathlib.Core.Logic.{⊎-elim}
 use Prim.Native.Nat.{ℕ, _+_, _*_, _-_, _<_, _≤_, _^_}
 use native.Mathlib.Omega.{arith}
-use borrow.Author.Needs.{needs}
-use lib.Dec.{eqb, ltb, leb}
+use lib.Dec.{leb}
 use lib.ListN.{length, getD}
 use Rattle.std.specs.Written.{decimal}
 use Rattle.std.proofs.shelf.Numerals.{Numerals, TellsDigits, Folds, numerals-by-fold}
 use Rattle.std.proofs.shelf.Decimals.{decimal-value, digits-decimal, value-decimal, first-decimal, decimal-digit, decimal-some}
-use Rattle.std.proofs.shelf.Tests.{eqb-true, eqb-false, leb-true, le-leb, and-parts, and-from, cases-lt}
-use Rattle.std.specs.Text.{In as Between}
+use Rattle.std.proofs.shelf.Tests.{leb-true, le-leb, and-parts, and-from, cases-lt}
 use Rattle.syntax.specs.Reading.{digit}
 use Rattle.syntax.specs.Texts.{Digits, valued}
 

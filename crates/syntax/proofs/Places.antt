@@ -1,7 +1,7 @@
 -- Where refusal 11 stands, and that what is accepted is a text.
 use mathlib.Core.Path.{_≡_, refl, sym, ap, _∙_, subst}
 use mathlib.Core.List.{List, [], _∷_, _++_}
-use Prim.Native.Nat.{ℕ, _+_, _<_, _≤_}
+use Prim.Native.Nat.{ℕ, _+_}
 use native.Mathlib.Omega.{arith}
 use lib.ListN.{length}
 use Rattle.syntax.specs.Grammar.{Want, wants}
@@ -11,21 +11,32 @@ use Rattle.syntax.specs.Reading.{Seen, Move, Outcome, go, step, over}
 use Rattle.syntax.specs.Reading.Move.{on, off}
 use Rattle.syntax.specs.Reading.Outcome.{done, refused}
 use Rattle.syntax.specs.Texts.{Text, shown}
-use Rattle.syntax.specs.Promises.{Place, Refused-right, Refused-all, Accepted-right}
 use mathlib.Core.Logic.{_⊎_, inl, inr, ⊎-elim}
-use Rattle.std.proofs.shelf.Lists.{append-assoc, append-nil, length-append}
+use Rattle.std.proofs.shelf.Lists.{append-assoc, append-nil}
 use Rattle.syntax.specs.Reading.{start-none, read}
 use mathlib.Core.Bool.{Bool, true, false, cond}
 use lib.Dec.{ltb}
-use Rattle.std.proofs.shelf.Tests.{cases-eq}
 use Rattle.syntax.specs.Texts.In.{here, there}
 use Rattle.syntax.specs.Texts.Text.{end, past, nought, some, rest, pick, spell}
 use Rattle.syntax.specs.declared.grammar.Form.the-variants.{TNum, Bound, Val, Station, Run}
 use Rattle.syntax.specs.declared.grammar.Sort.{Sort}
 use Rattle.syntax.specs.declared.grammar.Sort.the-variants.{Types, Worlds, Terms, First, Further}
 use Rattle.syntax.proofs.Steps.{go-cons, moved}
-use Rattle.syntax.proofs.Theory.{Follows, takes}
+use Rattle.syntax.proofs.Theory.{Follows, takes, beyond}
 use Rattle.syntax.proofs.Sound.{Plain, Fine, Sound, step-sound, plain-wants}
+
+-- refusal 11 at p over bs: some text begins with the bytes before p, and none with the byte at p too;
+-- where the bytes end there, they are no text
+pub record Place (bs : List ℕ) (ws : List Want) (i p : ℕ) : Type 0 where
+  pub before : List ℕ
+  pub after : List ℕ
+  pub split : bs ≡ before ++ after
+  pub place : p ≡ i + length before
+  pub text : Text ws
+  pub more : List ℕ
+  pub alive : shown text ≡ before ++ more
+  pub dead : (d : ℕ) (x y : List ℕ) → after ≡ d ∷ x → (t : Text ws) → shown t ≡ before ++ d ∷ y → ⊥
+  pub short : after ≡ [] → (t : Text ws) → shown t ≡ before → ⊥
 
 -- the shortest item of each sort
 term : {ws : List Want} → Text ws → Text (item Terms ∷ ws)
@@ -76,14 +87,14 @@ step-on c bs ws vs s s′ i p e back r =
     record {
       before = c ∷ r .before; after = r .after; split = ap (λ x. c ∷ x) (r .split); place = omega (arith, r .place);
       text = t .0; more = r .more; alive = t .1 ∙ ap (λ x. c ∷ x) (r .alive);
-      dead = λ d x y q u h. let f = subst (λ (m : Move). Follows m (r .before ++ d ∷ y)) e (takes u s i c (r .before ++ d ∷ y) h) in r .dead d x y q (f .0) (f .1);
-      short = λ q u h. let f = subst (λ (m : Move). Follows m (r .before)) e (takes u s i c (r .before) h) in r .short q (f .0) (f .1) }
+      dead = λ d x y q u h. let f = subst (λ (m : Move). Follows (λ x. beyond x u i) i m (r .before ++ d ∷ y)) e (takes u s i c (r .before ++ d ∷ y) h) in r .dead d x y q (f .0) (f .1);
+      short = λ q u h. let f = subst (λ (m : Move). Follows (λ x. beyond x u i) i m (r .before)) e (takes u s i c (r .before) h) in r .short q (f .0) (f .1) }
 
 step-off : (c : ℕ) (bs : List ℕ) (ws : List Want) (s : Seen) (i p q : ℕ) → Fine ws → step ws s i c ≡ off 11 q → p ≡ i → Place (c ∷ bs) ws i p
 step-off c bs ws s i p q f e k = stuck (c ∷ bs) ws i p f k (λ d x y g t h.
     let z : d ≡ c = cc in
     let h′ : shown t ≡ c ∷ y = h ∙ ap (λ w. w ∷ y) z in
-    subst (λ (m : Move). Follows m y) e (takes t s i c y h′) refl)
+    subst (λ (m : Move). Follows (λ x. beyond x t i) i m y) e (takes t s i c y h′) refl)
   (λ q t h. let z : _≡_ {A = ℕ} 0 1 = cc in omega arith)
 
 pub refused-at : (bs : List ℕ) (ws : List Want) (s : Seen) (i p : ℕ) → Fine ws → go bs ws s i ≡ refused 11 p → Place bs ws i p
@@ -116,18 +127,11 @@ accepted (c ∷ bs) ws s i s′ f h = at (step ws s i c) (step-sound ws s i c f)
     at (on vs u) g k r = let a = r vs u (g .0) k in let b = g .1 (a .0) in (b .0, b .1 ∙ ap (λ x. c ∷ x) (a .1))
     at (off n q) g k r = absurd (let z : _≡_ {A = ℕ} 0 1 = cc in omega arith)
 
-short-refused : (b : Bool) (o : Outcome) (p : ℕ) → cond b (refused 10 65536) o ≡ refused 11 p → o ≡ refused 11 p
-short-refused true o p e = absurd (let z : _≡_ {A = ℕ} 10 11 = cc in omega arith)
-short-refused false o p e = e
-
 pub short-done : (b : Bool) (o : Outcome) (s : Seen) → cond b (refused 10 65536) o ≡ done s → o ≡ done s
 short-done true o s e = absurd (let z : _≡_ {A = ℕ} 0 1 = cc in omega arith)
 short-done false o s e = e
 
-pub refused-right : Refused-right
-refused-right bs p e = refused-at bs (item First ∷ []) start-none 0 p tt (short-refused (ltb 65536 (length bs)) _ p e)
-
-pub accepted-right : Accepted-right
+pub accepted-right : (bs : List ℕ) (s : Seen) → read bs ≡ done s → (t : Text (item First ∷ [])) × (shown t ≡ bs)
 accepted-right bs s e = accepted bs (item First ∷ []) start-none 0 s tt (short-done (ltb 65536 (length bs)) _ s e)
 
 -- the one place
@@ -141,7 +145,7 @@ pub record Longer (a b r : List ℕ) : Type 0 where
 grow : (c e : ℕ) (a b r : List ℕ) → c ≡ e → Longer a b r → Longer (c ∷ a) (e ∷ b) r
 grow c e a b r q l = record { d = l .d; x = l .x; y = l .y; rest = l .rest; is = ap (λ (z : ℕ). z ∷ b) (sym q) ∙ ap (λ (z : List ℕ). c ∷ z) (l .is) }
 
-splits : (a r b q : List ℕ) → a ++ r ≡ b ++ q → (a ≡ b) ⊎ (Longer a b r ⊎ Longer b a q)
+pub splits : (a r b q : List ℕ) → a ++ r ≡ b ++ q → (a ≡ b) ⊎ (Longer a b r ⊎ Longer b a q)
 splits [] r [] q e = inl refl
 splits [] r (d ∷ b) q e = inr (inl (record { d = d; x = b ++ q; y = b; rest = e; is = refl }))
 splits (d ∷ a) r [] q e = inr (inr (record { d = d; x = a ++ r; y = a; rest = sym e; is = refl }))
@@ -157,29 +161,15 @@ apart-places bs ws i p q P Q l =
     P .dead (l .d) (l .x) (l .y ++ Q .more) (l .rest) (Q .text)
       (Q .alive ∙ ap (λ (z : List ℕ). z ++ Q .more) (l .is) ∙ append-assoc (P .before) (l .d ∷ l .y) (Q .more))
 
-one-place : (bs : List ℕ) (ws : List Want) (i p q : ℕ) → Place bs ws i p → Place bs ws i q → p ≡ q
+pub one-place : (bs : List ℕ) (ws : List Want) (i p q : ℕ) → Place bs ws i p → Place bs ws i q → p ≡ q
 one-place bs ws i p q P Q =
     ⊎-elim (λ (e : P .before ≡ Q .before). P .place ∙ ap (λ (z : List ℕ). i + length z) e ∙ sym (Q .place))
       (⊎-elim (λ (l : Longer (P .before) (Q .before) (P .after)). absurd (apart-places bs ws i p q P Q l)) (λ (l : Longer (Q .before) (P .before) (Q .after)). absurd (apart-places bs ws i q p Q P l)))
       (splits (P .before) (P .after) (Q .before) (Q .after) (sym (P .split) ∙ Q .split))
 
-not-done : (bs : List ℕ) (ws : List Want) (i p : ℕ) (P : Place bs ws i p) (t : Text ws) → shown t ≡ bs → ⊥
+pub not-done : (bs : List ℕ) (ws : List Want) (i p : ℕ) (P : Place bs ws i p) (t : Text ws) → shown t ≡ bs → ⊥
 not-done bs ws i p P t e = at (P .after) refl
   where
     at : (l : List ℕ) → P .after ≡ l → ⊥
     at [] q = P .short q t (e ∙ P .split ∙ ap (λ (z : List ℕ). P .before ++ z) q ∙ append-nil (P .before))
     at (d ∷ x) q = P .dead d x x q t (e ∙ P .split ∙ ap (λ (z : List ℕ). P .before ++ z) q)
-
-eleven : (n : ℕ) → (n ≡ 11) ⊎ (n ≡ 11 → ⊥)
-eleven n = cases-eq n 11
-
-pub refused-all : Refused-all
-refused-all bs p P = at (read bs) refl
-  where
-    at : (o : Outcome) → read bs ≡ o → (read bs ≡ refused 11 p) ⊎ ((n : ℕ) × ((q : ℕ) × ((read bs ≡ refused n q) × (n ≡ 11 → ⊥))))
-    at (done s) e = let a = accepted-right bs s e in absurd (not-done bs (item First ∷ []) 0 p P (a .0) (a .1))
-    at (refused n q) e = ⊎-elim
-      (λ (z : n ≡ 11). let e′ : read bs ≡ refused 11 q = e ∙ ap (λ (x : ℕ). refused x q) z in
-        inl (e′ ∙ ap (λ (x : ℕ). refused 11 x) (one-place bs (item First ∷ []) 0 q p (refused-right bs q e′) P)))
-      (λ (z : n ≡ 11 → ⊥). inr (n, (q, (e, z))))
-      (eleven n)

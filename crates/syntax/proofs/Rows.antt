@@ -1,12 +1,12 @@
 -- Facts of each form, read off its row.
-use mathlib.Core.Path.{_≡_, refl, sym, ap, _∙_, subst}
-use mathlib.Core.List.{List, [], _∷_, _++_}
-use mathlib.Core.Bool.{Bool, true, false}
+use mathlib.Core.Path.{_≡_, refl, ap}
+use mathlib.Core.List.{List, [], _∷_}
+use mathlib.Core.Bool.{false}
 use Prim.Native.Nat.{ℕ, suc}
 use native.Mathlib.Omega.{arith}
 use lib.Dec.{eqb}
 use lib.ListN.{getD, drop, length}
-use Rattle.syntax.specs.Grammar.{Kind, Want, Made, row, spelling, last, words, forms, spelled-out, sort-of, parts, width, cells}
+use Rattle.syntax.specs.Grammar.{Kind, Made, row, spelling, last, words, forms, spelled-out, sort-of, parts, width, cells}
 use Rattle.syntax.specs.Trees.{own}
 use Rattle.syntax.specs.Grammar.Kind.{type, world, term}
 use Rattle.syntax.specs.Grammar.Made.{a-type, a-world, a-term, a-station, a-start}

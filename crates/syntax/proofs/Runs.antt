@@ -2,34 +2,25 @@
 use mathlib.Core.Path.{_≡_, refl, sym, ap, _∙_, subst}
 use mathlib.Core.List.{List, [], _∷_, _++_}
 use mathlib.Core.Bool.{Bool, true, false, cond, _&&_}
-use mathlib.Core.Logic.{_⊎_, inl, inr, ⊎-elim}
-use Prim.Native.Nat.{ℕ, _+_, _*_, _-_, _<_, _≤_, max}
+use Prim.Native.Nat.{ℕ, _+_, _*_, _-_, _<_, _≤_}
 use native.Mathlib.Omega.{arith}
 use lib.Dec.{eqb, ltb, leb}
-use lib.ListN.{length, getD, drop, set}
+use lib.ListN.{length}
 use Rattle.std.specs.Written.{decimal}
-use Rattle.std.proofs.shelf.Tests.{eq-eqb, ne-eqb, eqb-true, eqb-false, ltb-true, ltb-false, leb-true, leb-false, le-leb, lt-leb, lt-ltb, le-ltb, both-ways, and-parts, and-from, and-right, and-cases}
-use Rattle.std.proofs.shelf.Lists.{length-set, length-push}
-use Rattle.syntax.specs.Grammar.{Stop, Want, Part, Kind, Made, byte, wants, words, more, shut, sep, parts, row, spelling, last, sort-of, width}
-use Rattle.syntax.specs.Grammar.Stop.{space, close, line}
+use Rattle.std.proofs.shelf.Tests.{eq-eqb, ne-eqb, eqb-true, ltb-true, ltb-false, leb-true, lt-ltb, le-ltb, both-ways, and-parts, and-from}
+use Rattle.syntax.specs.Grammar.{Stop, Want, Kind, byte, wants, words, sort-of}
 use Rattle.syntax.specs.Grammar.Want.{stop, number, digits, item, word}
-use Rattle.syntax.specs.Grammar.Part.{num, sub}
 use Rattle.syntax.specs.Grammar.Kind.{type, world, term}
-use Rattle.syntax.specs.Grammar.Made.{a-type, a-world, a-term, a-station, a-start}
-use Rattle.syntax.specs.Reading.{Seen, Move, Outcome, go, step, after, began, digit, full, begun, many, passed, push, counted, opened, at-depth, ended, settled}
+use Rattle.syntax.specs.Reading.{Seen, Outcome, go, after, began, digit, full, begun, many, passed, push, counted, opened}
 use Rattle.syntax.specs.Reading.Move.{on, off}
-use Rattle.syntax.specs.Reading.Outcome.{done, refused}
+use Rattle.syntax.specs.Reading.Outcome.{refused}
 use Rattle.syntax.specs.Texts.{In, Digits, valued, Apart}
-use Rattle.syntax.specs.Trees.{Parts, Fit, stop-of, inside, written, nested, deep, one-type, one-term, types, terms}
-use Rattle.syntax.specs.Trees.Parts.{none, number as number′, form}
 use Rattle.syntax.specs.declared.grammar.Form.{Form}
 use Rattle.syntax.specs.declared.grammar.Sort.{Sort}
-use Rattle.syntax.specs.declared.grammar.Sort.the-variants.{Types, Worlds, Terms, First, Further}
 use Rattle.syntax.proofs.Steps.{go-cons, moved}
 use Rattle.syntax.proofs.Theory.{no-digit, valued-ge, words-apart, apart-after, in-after}
 use Rattle.syntax.proofs.Words.{hit}
 use Rattle.syntax.proofs.Numbers.{head}
-use Rattle.syntax.proofs.Rows.{listed, spelt, inner}
 
 -- the limits by their refusals
 pub data Cap : Type 0 where
@@ -98,7 +89,7 @@ counted-up : (k : Bool) (v w : ℕ) → v ≤ w → counted k v ≡ true → cou
 counted-up true v w h e f = omega (arith, ltb-true 32 v e, ltb-false 32 w f)
 counted-up false v w h e f = both-ways false refl e
 
-small : (k : Bool) (v : ℕ) → v ≤ 9 → counted k v ≡ false
+pub small : (k : Bool) (v : ℕ) → v ≤ 9 → counted k v ≡ false
 small true v h = le-ltb 32 v (omega arith)
 small false v h = refl
 

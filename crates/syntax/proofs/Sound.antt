@@ -2,26 +2,22 @@
 use mathlib.Core.Path.{_≡_, refl, sym, ap, _∙_, subst}
 use mathlib.Core.List.{List, [], _∷_, _++_}
 use mathlib.Core.Bool.{Bool, true, false, cond, _&&_}
-use Prim.Native.Nat.{ℕ, _+_, _*_, _-_, _<_, _≤_}
+use Prim.Native.Nat.{ℕ, _+_, _*_, _-_, _<_}
 use native.Mathlib.Omega.{arith}
 use lib.Dec.{eqb, ltb, leb}
-use lib.ListN.{length}
 use Rattle.std.proofs.shelf.Tests.{eqb-true, eqb-false, ltb-true, leb-true, and-parts}
 use Rattle.syntax.specs.Grammar.{Stop, Want, Part, byte, wants, words, more, shut, parts, row}
 use Rattle.syntax.specs.Grammar.Part.{num, sub}
-use Rattle.syntax.specs.Grammar.Stop.{space, close, line}
 use Rattle.syntax.specs.Grammar.Want.{stop, number, digits, item, word}
-use Rattle.syntax.specs.Reading.{Seen, Move, Outcome, go, step, after, began, spelled, digit, over, full, begun, many, passed, push, counted, opened}
+use Rattle.syntax.specs.Reading.{Seen, Move, step, after, began, spelled, digit, full, begun, many, passed, push, counted}
 use Rattle.syntax.specs.Reading.Move.{on, off}
-use Rattle.syntax.specs.Reading.Outcome.{done, refused}
 use Rattle.syntax.specs.Texts.{In, Digits, valued, Apart, Text, shown}
 use Rattle.syntax.specs.Texts.In.{here, there}
-use Rattle.syntax.specs.Texts.Text.{end, past, nought, some, rest, pick, spell}
+use Rattle.syntax.specs.Texts.Text.{past, nought, some, rest, pick, spell}
 use Rattle.syntax.specs.declared.grammar.Form.{Form}
 use Rattle.syntax.specs.declared.grammar.Form.the-variants.{TNum, TNone, TFn, TBox, TAt, TBoth, Site, Bound, Num, Val, Lam, App, Boxed, Unbox, Here, Letd, Getb, Getd, Getn, Pair, Fst, Snd, Letcc, Throw, Go, Gauge, Gate, Below, Station, Run}
 use Rattle.syntax.specs.declared.grammar.Sort.{Sort}
 use Rattle.syntax.specs.declared.grammar.Sort.the-variants.{Types, Worlds, Terms, First, Further}
-use Rattle.syntax.proofs.Steps.{go-cons, moved}
 use Rattle.syntax.proofs.Theory.{words-apart, apart-after}
 
 -- nothing is half read
@@ -57,7 +53,7 @@ plain-fine (digits k q v a ∷ ws) p = absurd p
 plain-fine (item o ∷ ws) p = p
 plain-fine (word o ks ∷ ws) p = absurd p
 
-plain-next : (f : Form) (ws : List Want) → Plain ws → Plain (row f .next ++ ws)
+pub plain-next : (f : Form) (ws : List Want) → Plain ws → Plain (row f .next ++ ws)
 plain-next TNum ws p = p
 plain-next TNone ws p = p
 plain-next TFn ws p = p
@@ -102,7 +98,7 @@ pub plain-wants : (f : Form) (ws : List Want) → Plain ws → Plain (wants f ws
 plain-wants f ws p = plain-shut f (parts f) (row f .next ++ ws) (plain-next f ws p)
 
 -- words of two bytes and more, of one byte and more
-abbrev Wide : List (List ℕ × Form) → Type 0
+abbrev pub Wide : List (List ℕ × Form) → Type 0
 Wide [] = Unit {0}
 Wide (([], f) ∷ ks) = ⊥
 Wide ((b ∷ [], f) ∷ ks) = ⊥
@@ -115,12 +111,12 @@ wide Terms = tt
 wide First = tt
 wide Further = tt
 
-abbrev Whole : List (List ℕ × Form) → Type 0
+abbrev pub Whole : List (List ℕ × Form) → Type 0
 Whole [] = Unit {0}
 Whole (([], f) ∷ ks) = ⊥
 Whole ((b ∷ w, f) ∷ ks) = Whole ks
 
-wide-after : (c : ℕ) (ks : List (List ℕ × Form)) → Wide ks → Whole (after c ks)
+pub wide-after : (c : ℕ) (ks : List (List ℕ × Form)) → Wide ks → Whole (after c ks)
 wide-after c [] h = tt
 wide-after c (([], f) ∷ ks) h = absurd h
 wide-after c ((b ∷ [], f) ∷ ks) h = absurd h

@@ -2,29 +2,29 @@
 use mathlib.Core.Path.{_≡_, refl, sym, ap, _∙_, subst}
 use mathlib.Core.List.{List, [], _∷_, _++_}
 use mathlib.Core.Bool.{Bool, true, false, cond}
-use Prim.Native.Nat.{ℕ, _+_, _-_, _<_, _≤_}
+use Prim.Native.Nat.{ℕ, _+_, _-_}
 use native.Mathlib.Omega.{arith}
 use lib.Dec.{eqb}
-use lib.ListN.{length, getD, drop, set, take}
+use lib.ListN.{length, getD, drop, set}
 use Rattle.std.proofs.shelf.Lists.{length-append, length-push, append-nil, append-assoc, take-at, drop-at, getD-at, set-at}
 use Rattle.syntax.specs.Grammar.{Part, Kind, Made, parts, row, last, sort-of, width, cells}
 use Rattle.syntax.specs.Grammar.Stop.{close}
 use Rattle.syntax.specs.Grammar.Part.{num, sub}
 use Rattle.syntax.specs.Grammar.Kind.{type, world, term}
 use Rattle.syntax.specs.Grammar.Made.{a-type, a-world, a-term, a-station, a-start}
-use Rattle.syntax.specs.Reading.{Seen, begun, passed, push, opened, at-depth, ended, settled}
+use Rattle.syntax.specs.Reading.{Seen, begun, passed, opened, settled}
 use Rattle.syntax.specs.Trees.{Parts, Fit, one-type, one-term, types, terms, own, values, ty-row, tm-row, ty-rows, tm-rows}
 use Rattle.syntax.specs.Trees.Parts.{none, number as number′, form}
 use Rattle.syntax.specs.declared.grammar.Form.{Form}
 use Rattle.syntax.specs.declared.grammar.Sort.{Sort}
-use Rattle.syntax.specs.declared.grammar.Sort.the-variants.{Types, Worlds, Terms, First, Further}
+use Rattle.syntax.specs.declared.grammar.Sort.the-variants.{Types, Worlds, Terms}
 use Rattle.syntax.specs.declared.program.Ty.{Ty}
 use Rattle.syntax.specs.declared.program.Ty.the-variants.{Num as Ty·Num}
 use Rattle.syntax.specs.declared.program.Term.{Term}
 use Rattle.syntax.specs.declared.program.Term.the-variants.{Num as Term·Num}
 use Rattle.instruments.specs.declared.sheet.Station.{Station as Counts}
 use Rattle.syntax.proofs.Rows.{Makes, makes, own-width}
-use Rattle.syntax.proofs.Forms.{put, put-sizes, form-sizes, Sizes}
+use Rattle.syntax.proofs.Forms.{put, put-sizes, form-sizes}
 
 abbrev pub seen : List ℕ → ℕ → List Ty → List Term → List Counts → ℕ → Seen
 seen v d T M H n = record { vals = v; depth = d; tys = T; tms = M; stations = H; start = n }

@@ -2,20 +2,17 @@
 use mathlib.Core.Path.{_≡_, refl, sym, ap, _∙_, subst}
 use mathlib.Core.List.{List, [], _∷_, _++_}
 use mathlib.Core.Bool.{Bool, true, false, cond, _&&_, not}
-use mathlib.Core.Logic.{_⊎_, inl, inr, ⊎-elim}
 use Prim.Native.Nat.{ℕ, _+_, _*_, _-_, _<_, _≤_}
 use native.Mathlib.Omega.{arith}
 use lib.Dec.{eqb, ltb, leb}
 use lib.ListN.{length}
-use Rattle.std.proofs.shelf.Tests.{eq-eqb, ne-eqb, eqb-true, lt-ltb, both-ways, cases-bool, and-parts, not-true, and-right, and-from}
+use Rattle.std.proofs.shelf.Tests.{eq-eqb, ne-eqb, eqb-true, lt-ltb, both-ways, and-parts, not-true, and-from}
 use Rattle.syntax.specs.Grammar.{Stop, Want, byte, wants, words}
 use Rattle.syntax.specs.Grammar.Stop.{space, close, line}
 use Rattle.syntax.specs.Grammar.Want.{stop, number, digits, item, word}
-use Rattle.syntax.specs.Reading.{Seen, Move, Outcome, go, step, after, began, spelled, digit, over, full, begun, many, passed, push, counted}
+use Rattle.syntax.specs.Reading.{Seen, Move, step, after, began, spelled, digit, full, begun, many, passed, push, counted}
 use Rattle.syntax.specs.Reading.Move.{on, off}
-use Rattle.syntax.specs.Reading.Outcome.{done, refused}
-use Rattle.syntax.proofs.Steps.{go-cons, moved}
-use Rattle.syntax.specs.Texts.{In, Digits, valued, begins, Far, Apart, Text, shown}
+use Rattle.syntax.specs.Texts.{In, valued, begins, Far, Apart, Text, shown, New, new-item, new-number, noted, places}
 use Rattle.syntax.specs.Texts.In.{here, there}
 use Rattle.syntax.specs.Texts.Text.{end, past, nought, some, rest, pick, spell}
 use Rattle.syntax.specs.declared.grammar.Form.{Form}
@@ -125,86 +122,108 @@ pub valued-ge : (v : ℕ) (ds : List ℕ) → v ≤ valued v ds
 valued-ge v [] = omega arith
 valued-ge v (c ∷ ds) = let h = valued-ge (v * 10 + (c - 48)) ds in omega arith
 
+-- what is wanted begins something with its first byte, and what begins behind that byte
+abbrev pub mark : New → List Want → Bool
+mark x [] = false
+mark x (stop a ∷ ws) = false
+mark x (number k a ∷ ws) = new-number x k
+mark x (digits k p v a ∷ ws) = false
+mark x (item o ∷ ws) = new-item x o
+mark x (word o ks ∷ ws) = false
+
+abbrev pub beyond : New → {ws : List Want} → Text ws → ℕ → List ℕ
+beyond x end i = []
+beyond x (past a t) i = places x t (i + 1)
+beyond x (nought k a t) i = places x t (i + 2)
+beyond x (some k a c ds h n hs l t) i = places x t (i + length ds + 2)
+beyond x (rest k p v a ds hs l t) i = places x t (i + length ds + 1)
+beyond x (pick o b d w f m t) i = places x t (i + length w + 2)
+beyond x (spell o ks h b w f m t) i = places x t (i + length w + 1)
+
+pub places-first : (x : New) {ws : List Want} (t : Text ws) (i : ℕ) → places x t i ≡ noted (mark x ws) i (beyond x t i)
+places-first x end i = refl
+places-first x (past a t) i = refl
+places-first x (nought k a t) i = refl
+places-first x (some k a c ds h n hs l t) i = refl
+places-first x (rest k p v a ds hs l t) i = refl
+places-first x (pick o b d w f m t) i = refl
+places-first x (spell o ks h b w f m t) i = refl
+
 -- what a move leaves to be read
-abbrev pub Follows : Move → List ℕ → Type 0
-Follows (on ws s) bs = (t : Text ws) × (shown t ≡ bs)
-Follows (off n p) bs = n ≡ 11 → ⊥
+abbrev pub Follows : (New → List ℕ) → ℕ → Move → List ℕ → Type 0
+Follows L i (on ws s) bs = (t : Text ws) × (shown t ≡ bs) × ((x : New) → L x ≡ places x t (i + 1))
+Follows L i (off n p) bs = n ≡ 11 → ⊥
 
 -- a limit is another number
-limit : (b : Bool) (n p : ℕ) (m : Move) (bs : List ℕ) → (n ≡ 11 → ⊥) → Follows m bs → Follows (cond b (off n p) m) bs
-limit true n p m bs h f = h
-limit false n p m bs h f = f
+limit : (L : New → List ℕ) (i : ℕ) (b : Bool) (n p : ℕ) (m : Move) (bs : List ℕ) → (n ≡ 11 → ⊥) → Follows L i m bs → Follows L i (cond b (off n p) m) bs
+limit L i true n p m bs h f = h
+limit L i false n p m bs h f = f
 
 began-follows : (o : Sort) (ks : List (List ℕ × Form)) (ws : List Want) (s : Seen) (i c d : ℕ) (w : List ℕ) (f : Form) → Apart ks → In (d ∷ w) f ks → (t : Text (wants f ws)) →
-  Follows (began o ks ws s i c) (d ∷ w ++ shown t)
+  Follows (λ x. places x t (i + length w + 2)) i (began o ks ws s i c) (d ∷ w ++ shown t)
 began-follows o ((v, g) ∷ ks) ws s i c d w f h m t =
-    limit (eqb c 40 && leb 64 (s .depth)) 12 i (cond (full o s) (off 13 i) (on (word o ((v, g) ∷ ks) ∷ ws) (begun o s))) (d ∷ w ++ shown t) (omega arith)
-    (limit (full o s) 13 i (on (word o ((v, g) ∷ ks) ∷ ws) (begun o s)) (d ∷ w ++ shown t) (omega arith) (spell o ((v, g) ∷ ks) h d w f m t, refl))
+    let L : New → List ℕ = λ x. places x t (i + length w + 2) in
+    limit L i (eqb c 40 && leb 64 (s .depth)) 12 i (cond (full o s) (off 13 i) (on (word o ((v, g) ∷ ks) ∷ ws) (begun o s))) (d ∷ w ++ shown t) (omega arith)
+    (limit L i (full o s) 13 i (on (word o ((v, g) ∷ ks) ∷ ws) (begun o s)) (d ∷ w ++ shown t) (omega arith)
+      (spell o ((v, g) ∷ ks) h d w f m t, refl, λ x. ap (places x t) (let z : i + length w + 2 ≡ i + 1 + length w + 1 = omega arith in z)))
 began-follows o [] ws s i c d w f h m t = elim m [ ]
 
 spelled-follows : (o : Sort) (ks : List (List ℕ × Form)) (ws : List Want) (s : Seen) (i c : ℕ) (w : List ℕ) (f : Form) → Apart ks → In w f ks → (t : Text (wants f ws)) →
-  Follows (spelled o ks ws s i c) (w ++ shown t)
+  Follows (λ x. places x t (i + length w + 1)) i (spelled o ks ws s i c) (w ++ shown t)
 spelled-follows o [] ws s i c w f h m t = elim m [ ]
-spelled-follows o (([], g) ∷ ks) ws s i c w f h here t = (t, refl)
+spelled-follows o (([], g) ∷ ks) ws s i c w f h here t = (t, refl, λ x. ap (places x t) (let z : i + 0 + 1 ≡ i + 1 = omega arith in z))
 spelled-follows o (([], g) ∷ ks) ws s i c w f h (there m) t = absurd (both-ways true (far-in [] w f ks (h .0) m .0) refl)
-spelled-follows o ((b ∷ v, g) ∷ ks) ws s i c (d ∷ w) f h m t = limit (many o c s) 14 (i - 1) (on (word o ((b ∷ v, g) ∷ ks) ∷ ws) s) (d ∷ w ++ shown t) (omega arith) (spell o ((b ∷ v, g) ∷ ks) h d w f m t, refl)
+spelled-follows o ((b ∷ v, g) ∷ ks) ws s i c (d ∷ w) f h m t =
+    limit (λ x. places x t (i + length (d ∷ w) + 1)) i (many o c s) 14 (i - 1) (on (word o ((b ∷ v, g) ∷ ks) ∷ ws) s) (d ∷ w ++ shown t) (omega arith)
+      (spell o ((b ∷ v, g) ∷ ks) h d w f m t, refl, λ x. ap (places x t) (let z : i + length (d ∷ w) + 1 ≡ i + 1 + length w + 1 = omega arith in z))
 spelled-follows o ((b ∷ v, g) ∷ ks) ws s i c [] f h (there m) t = absurd (both-ways true (far-in (b ∷ v) [] f ks (h .0) m .1) refl)
 
 -- the byte that a text of what is wanted has first is taken
-pub takes : {ws : List Want} (t : Text ws) (s : Seen) (i c : ℕ) (bs : List ℕ) → shown t ≡ c ∷ bs → Follows (step ws s i c) bs
+pub takes : {ws : List Want} (t : Text ws) (s : Seen) (i c : ℕ) (bs : List ℕ) → shown t ≡ c ∷ bs → Follows (λ x. beyond x t i) i (step ws s i c) bs
 takes end s i c bs e = absurd (let z : _≡_ {A = ℕ} 0 1 = cc in omega arith)
 takes (past {ws} a t) s i c bs e =
     let p : c ≡ byte a = cc in
     let q : shown t ≡ bs = cc in
-    subst (λ (x : Bool). Follows (cond x (on ws (passed a s)) (off 11 i)) bs) (sym (eq-eqb c (byte a) p)) (t, q)
+    subst (λ (x : Bool). Follows (λ x. places x t (i + 1)) i (cond x (on ws (passed a s)) (off 11 i)) bs) (sym (eq-eqb c (byte a) p)) (t, q, λ x. refl)
 takes (nought {ws} k a t) s i c bs e =
     let p : c ≡ 48 = cc in
     let q : byte a ∷ shown t ≡ bs = cc in
-    subst (λ (x : Bool). Follows (cond x (on (stop a ∷ ws) (push 0 s)) (cond (digit c) (on (digits k i (c - 48) a ∷ ws) s) (off 11 i))) bs) (sym (eq-eqb c 48 p)) (past a t, q)
+    subst (λ (x : Bool). Follows (λ x. places x t (i + 2)) i (cond x (on (stop a ∷ ws) (push 0 s)) (cond (digit c) (on (digits k i (c - 48) a ∷ ws) s) (off 11 i))) bs) (sym (eq-eqb c 48 p))
+      (past a t, q, λ x. ap (places x t) (let z : i + 2 ≡ i + 1 + 1 = omega arith in z))
 takes (some {ws} k a d ds h n hs l t) s i c bs e =
     let p : d ≡ c = cc in
     let q : ds ++ byte a ∷ shown t ≡ bs = cc in
+    let L : New → List ℕ = λ x. places x t (i + length ds + 2) in
     let l′ : valued (c - 48) ds < 65536 = subst (λ (x : ℕ). valued (x - 48) ds < 65536) p l in
-    subst (λ (x : Bool). Follows (cond x (on (stop a ∷ ws) (push 0 s)) (cond (digit c) (on (digits k i (c - 48) a ∷ ws) s) (off 11 i))) bs) (sym (ne-eqb c 48 (λ r. n (p ∙ r))))
-    (subst (λ (x : Bool). Follows (cond x (on (digits k i (c - 48) a ∷ ws) s) (off 11 i)) bs) (sym (ap digit (sym p) ∙ h)) (rest k i (c - 48) a ds hs l′ t, q))
+    subst (λ (x : Bool). Follows L i (cond x (on (stop a ∷ ws) (push 0 s)) (cond (digit c) (on (digits k i (c - 48) a ∷ ws) s) (off 11 i))) bs) (sym (ne-eqb c 48 (λ r. n (p ∙ r))))
+    (subst (λ (x : Bool). Follows L i (cond x (on (digits k i (c - 48) a ∷ ws) s) (off 11 i)) bs) (sym (ap digit (sym p) ∙ h))
+      (rest k i (c - 48) a ds hs l′ t, q, λ x. ap (places x t) (let z : i + length ds + 2 ≡ i + 1 + length ds + 1 = omega arith in z)))
 takes (rest {ws} k r v a [] hs l t) s i c bs e =
     let p : c ≡ byte a = cc in
     let q : shown t ≡ bs = cc in
-    subst (λ (x : Bool). Follows (cond x (on ws (passed a (push v s))) (cond (digit c && ltb (v * 10 + (c - 48)) 65536) (cond (counted k (v * 10 + (c - 48))) (off 14 r) (on (digits k r (v * 10 + (c - 48)) a ∷ ws) s)) (off 11 i))) bs)
-      (sym (eq-eqb c (byte a) p)) (t, q)
+    subst (λ (x : Bool). Follows (λ x. places x t (i + 0 + 1)) i (cond x (on ws (passed a (push v s))) (cond (digit c && ltb (v * 10 + (c - 48)) 65536) (cond (counted k (v * 10 + (c - 48))) (off 14 r) (on (digits k r (v * 10 + (c - 48)) a ∷ ws) s)) (off 11 i))) bs)
+      (sym (eq-eqb c (byte a) p)) (t, q, λ x. ap (places x t) (let z : i + 0 + 1 ≡ i + 1 = omega arith in z))
 takes (rest {ws} k r v a (d ∷ ds) hs l t) s i c bs e =
     let p : d ≡ c = cc in
     let q : ds ++ byte a ∷ shown t ≡ bs = cc in
+    let L : New → List ℕ = λ x. places x t (i + length (d ∷ ds) + 1) in
     let l′ : valued (v * 10 + (c - 48)) ds < 65536 = subst (λ (x : ℕ). valued (v * 10 + (x - 48)) ds < 65536) p l in
     let h : digit c ≡ true = ap digit (sym p) ∙ hs .0 in
     let m : v * 10 + (c - 48) < 65536 = omega (arith, valued-ge (v * 10 + (c - 48)) ds) in
-    subst (λ (x : Bool). Follows (cond x (on ws (passed a (push v s))) (cond (digit c && ltb (v * 10 + (c - 48)) 65536) (cond (counted k (v * 10 + (c - 48))) (off 14 r) (on (digits k r (v * 10 + (c - 48)) a ∷ ws) s)) (off 11 i))) bs)
+    subst (λ (x : Bool). Follows L i (cond x (on ws (passed a (push v s))) (cond (digit c && ltb (v * 10 + (c - 48)) 65536) (cond (counted k (v * 10 + (c - 48))) (off 14 r) (on (digits k r (v * 10 + (c - 48)) a ∷ ws) s)) (off 11 i))) bs)
       (sym (ne-eqb c (byte a) (λ z. both-ways (digit (byte a)) (no-digit a) (ap digit (sym z) ∙ h))))
-    (subst (λ (x : Bool). Follows (cond x (cond (counted k (v * 10 + (c - 48))) (off 14 r) (on (digits k r (v * 10 + (c - 48)) a ∷ ws) s)) (off 11 i)) bs) (sym (and-from (digit c) (ltb (v * 10 + (c - 48)) 65536) h (lt-ltb (v * 10 + (c - 48)) 65536 m)))
-    (limit (counted k (v * 10 + (c - 48))) 14 r (on (digits k r (v * 10 + (c - 48)) a ∷ ws) s) bs (omega arith) (rest k r (v * 10 + (c - 48)) a ds (hs .1) l′ t, q)))
+    (subst (λ (x : Bool). Follows L i (cond x (cond (counted k (v * 10 + (c - 48))) (off 14 r) (on (digits k r (v * 10 + (c - 48)) a ∷ ws) s)) (off 11 i)) bs) (sym (and-from (digit c) (ltb (v * 10 + (c - 48)) 65536) h (lt-ltb (v * 10 + (c - 48)) 65536 m)))
+    (limit L i (counted k (v * 10 + (c - 48))) 14 r (on (digits k r (v * 10 + (c - 48)) a ∷ ws) s) bs (omega arith)
+      (rest k r (v * 10 + (c - 48)) a ds (hs .1) l′ t, q, λ x. ap (places x t) (let z : i + length (d ∷ ds) + 1 ≡ i + 1 + length ds + 1 = omega arith in z))))
 takes (pick {ws} o b d w f m t) s i c bs e =
     let p : b ≡ c = cc in
     let q : d ∷ w ++ shown t ≡ bs = cc in
     let m′ : In (c ∷ d ∷ w) f (words o) = subst (λ (x : ℕ). In (x ∷ d ∷ w) f (words o)) p m in
-    subst (λ (x : List ℕ). Follows (began o (after c (words o)) ws s i c) x) q
+    subst (λ (x : List ℕ). Follows (λ y. places y t (i + length w + 2)) i (began o (after c (words o)) ws s i c) x) q
       (began-follows o (after c (words o)) ws s i c d w f (apart-after c (words o) (words-apart o)) (in-after c (d ∷ w) f (words o) m′) t)
 takes (spell {ws} o ks h b w f m t) s i c bs e =
     let p : b ≡ c = cc in
     let q : w ++ shown t ≡ bs = cc in
     let m′ : In (c ∷ w) f ks = subst (λ (x : ℕ). In (x ∷ w) f ks) p m in
-    subst (λ (x : List ℕ). Follows (spelled o (after c ks) ws s i c) x) q
+    subst (λ (x : List ℕ). Follows (λ y. places y t (i + length w + 1)) i (spelled o (after c ks) ws s i c) x) q
       (spelled-follows o (after c ks) ws s i c w f (apart-after c ks h) (in-after c w f ks m′) t)
-
--- where a text begins so, refusal 11 can only name the end
-pub lives : (bs : List ℕ) {ws : List Want} (t : Text ws) (s : Seen) (i : ℕ) (more : List ℕ) → shown t ≡ bs ++ more → (p : ℕ) → go bs ws s i ≡ refused 11 p → p ≡ i + length bs
-unfolding go
-lives [] {ws} t s i more e p h = at ws h
-  where
-    at : (vs : List Want) → over vs s i ≡ refused 11 p → p ≡ i + 0
-    at [] g = absurd (let z : _≡_ {A = ℕ} 0 1 = cc in omega arith)
-    at (v ∷ vs) g = let q : i ≡ p = cc in omega arith
-lives (c ∷ bs) {ws} t s i more e p h = at (step ws s i c) (takes t s i c (bs ++ more) e) (sym (go-cons c bs ws s i) ∙ h) (λ vs u s′ q g. lives bs u s′ (i + 1) more q p g)
-  where
-    at : (m : Move) → Follows m (bs ++ more) → moved bs i m ≡ refused 11 p → ((vs : List Want) (u : Text vs) (s′ : Seen) → shown u ≡ bs ++ more → go bs vs s′ (i + 1) ≡ refused 11 p → p ≡ i + 1 + length bs) → p ≡ i + length (c ∷ bs)
-    at (on vs s′) f g r = let q = r vs (f .0) s′ (f .1) g in omega arith
-    at (off n q) f g r = absurd (f (let z : n ≡ 11 = cc in z))

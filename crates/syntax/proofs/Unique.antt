@@ -1,20 +1,17 @@
 -- Two programs with one text are the same.
 use mathlib.Core.Path.{_≡_, refl, sym, ap, _∙_, subst}
 use mathlib.Core.List.{List, [], _∷_, _++_}
-use mathlib.Core.Bool.{Bool, true, false, _&&_}
-use Prim.Native.Nat.{ℕ, _+_, _-_, _<_, _≤_, _^_}
+use mathlib.Core.Bool.{true, false}
+use Prim.Native.Nat.{ℕ, _<_, _^_}
 use native.Mathlib.Omega.{arith}
-use lib.Dec.{eqb}
-use lib.ListN.{length}
 use Rattle.std.specs.Written.{decimal}
 use Rattle.std.proofs.shelf.Decimals.{digits-decimal, same-from-decimal}
 use Rattle.std.proofs.shelf.Lists.{append-cancel-left}
 use Rattle.std.proofs.shelf.Tests.{eq-eqb, both-ways}
-use Rattle.syntax.specs.Grammar.{Stop, Part, Kind, byte, words, sep, parts, row, spelling, last, sort-of}
+use Rattle.syntax.specs.Grammar.{Stop, Part, byte, words, parts, row, spelling, last, sort-of}
 use Rattle.syntax.specs.Grammar.Part.{num, sub}
-use Rattle.syntax.specs.Grammar.Kind.{type, world, term}
 use Rattle.syntax.specs.Reading.{digit}
-use Rattle.syntax.specs.Texts.{In, Digits, begins, Far, Apart}
+use Rattle.syntax.specs.Texts.{In, Digits, begins, Apart}
 use Rattle.syntax.specs.Texts.In.{here, there}
 use Rattle.syntax.specs.Trees.{Parts, Prog, Fit, stop-of, inside, written, station-parts, run-parts, stations-text, print, Each, Right}
 use Rattle.syntax.specs.Trees.Parts.{none, number as number′, form}

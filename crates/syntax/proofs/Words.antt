@@ -1,19 +1,15 @@
 -- A word followed byte by byte is a word compared at once.
-use mathlib.Core.Path.{_≡_, refl, sym, ap, _∙_, subst}
+use mathlib.Core.Path.{_≡_, refl, ap, _∙_}
 use mathlib.Core.List.{List, [], _∷_, _++_}
-use mathlib.Core.Bool.{Bool, true, false, cond}
-use Prim.Native.Nat.{ℕ, zero, suc, _+_, _-_, _<_, _≤_, max}
+use mathlib.Core.Bool.{true, false}
+use Prim.Native.Nat.{ℕ, _+_}
 use native.Mathlib.Omega.{arith}
-use lib.Dec.{eqb}
-use lib.ListN.{length, drop, getD, take}
-use Rattle.std.proofs.shelf.Lists.{drop-more, drop-all, take-more, drop-drop}
-use Rattle.std.proofs.shelf.Tests.{eq-eqb, ne-eqb, eqb-true, both-ways}
+use lib.ListN.{length}
+use Rattle.std.proofs.shelf.Tests.{both-ways}
 use Rattle.syntax.specs.Grammar.{Want, wants}
 use Rattle.syntax.specs.Grammar.Want.{word}
-use Rattle.syntax.specs.Reading.{Seen, Move, go, step, after, spelled, many, opened}
-use Rattle.syntax.specs.Reading.Move.{on, off}
-use Rattle.syntax.specs.Reading.Outcome.{refused}
-use Rattle.syntax.specs.Texts.{In, Apart, begins}
+use Rattle.syntax.specs.Reading.{Seen, go, after, spelled, many, opened}
+use Rattle.syntax.specs.Texts.{In, Apart}
 use Rattle.syntax.specs.Texts.In.{here, there}
 use Rattle.syntax.specs.declared.grammar.Form.{Form}
 use Rattle.syntax.specs.declared.grammar.Sort.{Sort}

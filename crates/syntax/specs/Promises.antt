@@ -1,42 +1,30 @@
 -- What is promised of every text, in the grammar's words.
 use mathlib.Core.Path.{_≡_}
-use mathlib.Core.List.{List, [], _∷_, _++_}
-use mathlib.Core.Logic.{_⊎_}
-use Prim.Native.Nat.{ℕ, _+_, _≤_, _<_}
-use mathlib.Core.Bool.{cond}
-use lib.Dec.{eqb}
+use mathlib.Core.List.{List, [], _++_}
+use Prim.Native.Nat.{ℕ, _+_, _≤_}
 use lib.ListN.{length}
-use Rattle.syntax.specs.Grammar.{Want}
-use Rattle.syntax.specs.Grammar.Want.{item}
 use Rattle.syntax.specs.Reading.{Seen, read}
 use Rattle.syntax.specs.Reading.Outcome.{done, refused}
-use Rattle.syntax.specs.Texts.{Text, shown, Digits, valued}
-use Rattle.syntax.specs.Trees.{Prog, Right, Limits, Tables, print, table, tables, Each, deep, terms, types}
-use Rattle.syntax.specs.declared.grammar.Sort.the-variants.{First}
+use Rattle.syntax.specs.Texts.{shown, New}
+use Rattle.syntax.specs.Trees.{Prog, Right, Limits, print, table, tables, Each, deep, terms, types}
+use Rattle.syntax.specs.Refusals.{Whole, Nth, Holds, Given}
+use Rattle.syntax.specs.Sound.{Sound, Low}
 
--- refusal 11 at p over bs: some text begins with the bytes before p, and none with the byte at p too;
--- where the bytes end there, they are no text
-pub record Place (bs : List ℕ) (ws : List Want) (i p : ℕ) : Type 0 where
-  pub before : List ℕ
-  pub after : List ℕ
-  pub split : bs ≡ before ++ after
-  pub place : p ≡ i + length before
-  pub text : Text ws
-  pub more : List ℕ
-  pub alive : shown text ≡ before ++ more
-  pub dead : (d : ℕ) (x y : List ℕ) → after ≡ d ∷ x → (t : Text ws) → shown t ≡ before ++ d ∷ y → ⊥
-  pub short : after ≡ [] → (t : Text ws) → shown t ≡ before → ⊥
+-- A text is refused by n at p exactly if that refusal holds of it and comes before all others that hold.
+abbrev pub Refused-exactly : Type 0
+Refused-exactly = (bs : List ℕ) (n p : ℕ) → (read bs ≡ refused n p → Given bs n p) × (Given bs n p → read bs ≡ refused n p)
 
-abbrev pub Refused-right : Type 0
-Refused-right = (bs : List ℕ) (p : ℕ) → read bs ≡ refused 11 p → Place bs (item First ∷ []) 0 p
+-- A text is read exactly if no refusal holds of it.
+abbrev pub Accepted-exactly : Type 0
+Accepted-exactly = (bs : List ℕ) → ((s : Seen) → read bs ≡ done s → (n p : ℕ) → Holds bs n p → ⊥) × (((n p : ℕ) → Holds bs n p → ⊥) → (s : Seen) × (read bs ≡ done s))
 
--- the converse: at such a place the answer is refusal 11 there, or a limit's refusal
-abbrev pub Refused-all : Type 0
-Refused-all = (bs : List ℕ) (p : ℕ) → Place bs (item First ∷ []) 0 p →
-  (read bs ≡ refused 11 p) ⊎ ((n : ℕ) × ((q : ℕ) × ((read bs ≡ refused n q) × (n ≡ 11 → ⊥))))
+-- The texts of the grammar are the texts of the programs.
+abbrev pub One-grammar : Type 0
+One-grammar = ((t : Whole) → (p : Prog) × (Right p × (print p ≡ shown t))) × ((p : Prog) → Right p → (t : Whole) × (shown t ≡ print p))
 
-abbrev pub Accepted-right : Type 0
-Accepted-right = (bs : List ℕ) (s : Seen) → read bs ≡ done s → (t : Text (item First ∷ [])) × (shown t ≡ bs)
+-- What begins at a place of a text, and how many began before it, depends on the bytes before that place alone.
+abbrev pub One-count : Type 0
+One-count = (x : New) (n : ℕ) (t u : Whole) (before a b : List ℕ) → shown t ≡ before ++ a → shown u ≡ before ++ b → Nth x n t (length before) → Nth x n u (length before)
 
 -- bs is the text of the program p, which keeps the limits
 pub record Texts (bs : List ℕ) (p : Prog) : Type 0 where
@@ -56,6 +44,14 @@ Read-right = (bs : List ℕ) (s : Seen) → read bs ≡ done s → (p : Prog) ×
 abbrev pub Read-all : Type 0
 Read-all = (bs : List ℕ) (p : Prog) → Texts bs p → read bs ≡ done (whole p)
 
+-- the tables that are read lead nowhere but to rows that are there, and keep the limits
+abbrev pub Read-sound : Type 0
+Read-sound = (bs : List ℕ) (s : Seen) → read bs ≡ done s → Sound (tables s)
+
+-- No type and no term that is read is more than 64 high.
+abbrev pub Read-low : Type 0
+Read-low = (bs : List ℕ) (s : Seen) → read bs ≡ done s → Low (tables s)
+
 -- bytes are the text of one program at most
 abbrev pub Read-one : Type 0
 Read-one = (bs : List ℕ) (p q : Prog) → Right p → Right q → print p ≡ bs → print q ≡ bs → p ≡ q
@@ -63,25 +59,6 @@ Read-one = (bs : List ℕ) (p q : Prog) → Right p → Right q → print p ≡ 
 -- writing what was read gives the bytes again
 abbrev pub Restored : Type 0
 Restored = (bs : List ℕ) (s : Seen) → read bs ≡ done s → (p : Prog) × ((tables s ≡ table p) × (print p ≡ bs) × (read (print p) ≡ done s))
-
--- how often a byte stands in a text
-abbrev pub tally : ℕ → List ℕ → ℕ
-tally b [] = 0
-tally b (c ∷ bs) = cond (eqb c b) 1 0 + tally b bs
-
--- refusal 12 at p over bs: a bracket stands there, as one can in some text, and 64 brackets are open before it
-pub record Deep (bs : List ℕ) (p : ℕ) : Type 0 where
-  pub before : List ℕ
-  pub after : List ℕ
-  pub split : bs ≡ before ++ 40 ∷ after
-  pub place : p ≡ length before
-  pub inside : tally 40 before ≡ tally 41 before + 64
-  pub text : Text (item First ∷ [])
-  pub more : List ℕ
-  pub alive : shown text ≡ before ++ 40 ∷ more
-
-abbrev pub Deep-right : Type 0
-Deep-right = (bs : List ℕ) (p : ℕ) → read bs ≡ refused 12 p → Deep bs p
 
 -- the program breaks the limit that the refusal n is for
 pub data Broken (p : Prog) : ℕ → Type 0 where
@@ -93,28 +70,3 @@ pub data Broken (p : Prog) : ℕ → Type 0 where
 -- the text of a program is refused only by the number of a limit that it breaks
 abbrev pub Limit-right : Type 0
 Limit-right = (bs : List ℕ) (p : Prog) → Right p → print p ≡ bs → (n q : ℕ) → read bs ≡ refused n q → Broken p n
-
--- refusals 12, 13 and 14 over bs: some program's text begins with the bytes up to one of them, which for 12 and 13 stands at p,
--- and every program whose text begins so breaks that limit
-pub record Doomed (bs : List ℕ) (n p : ℕ) : Type 0 where
-  pub before : List ℕ
-  pub c : ℕ
-  pub after : List ℕ
-  pub split : bs ≡ before ++ c ∷ after
-  pub place : (n ≡ 14 → ⊥) → p ≡ length before
-  pub some : Prog
-  pub right : Right some
-  pub more : List ℕ
-  pub alive : print some ≡ before ++ c ∷ more
-  pub every : (q : Prog) → Right q → (y : List ℕ) → print q ≡ before ++ c ∷ y → Broken q n
-
-abbrev pub Doomed-right : Type 0
-Doomed-right = (bs : List ℕ) (n p : ℕ) → (n ≡ 10 → ⊥) → (n ≡ 11 → ⊥) → read bs ≡ refused n p → Doomed bs n p
-
--- refusal 14 at p over bs: a line there begins "(s", or digits begin there that pass 32
-pub data Sheeted (bs : List ℕ) (p : ℕ) : Type 0 where
-  a-line : (before after : List ℕ) → bs ≡ before ++ 40 ∷ 115 ∷ after → p ≡ length before → Sheeted bs p
-  a-count : (before ds after : List ℕ) → bs ≡ before ++ (ds ++ after) → p ≡ length before → Digits ds → 32 < valued 0 ds → Sheeted bs p
-
-abbrev pub Sheet-right : Type 0
-Sheet-right = (bs : List ℕ) (p : ℕ) → read bs ≡ refused 14 p → Sheeted bs p

@@ -1,27 +1,21 @@
 -- How a text is read: byte by byte, over what it has to go on with.
-use mathlib.Core.Path.{_≡_, refl}
 use mathlib.Core.List.{List, [], _∷_, _++_}
-use mathlib.Core.Bool.{Bool, true, false, cond, _&&_, _||_, not}
+use mathlib.Core.Bool.{Bool, false, cond, _&&_}
 use Prim.Native.Nat.{ℕ, _+_, _*_, _-_}
 use lib.Dec.{eqb, ltb, leb}
 use lib.ListN.{length, getD, set, drop, take}
-use lib.Chars.{codes}
 use Rattle.std.specs.Text.{asciiDigit}
 use Rattle.syntax.specs.Grammar.{Stop, Want, Made, byte, last, wants, words, row, parts, width}
 use Rattle.syntax.specs.Grammar.Made.{a-type, a-world, a-term, a-station, a-start}
 use Rattle.syntax.specs.Grammar.Stop.{space, close, line}
 use Rattle.syntax.specs.Grammar.Want.{stop, number, digits, item, word}
 use Rattle.syntax.specs.declared.grammar.Form.{Form}
-use Rattle.syntax.specs.declared.grammar.Form.the-variants.{TNum, TNone, TFn, TBox, TAt, TBoth, Site, Bound, Num, Val, Lam, App, Boxed, Unbox, Here, Letd, Getb, Getd, Getn, Pair, Fst, Snd, Letcc, Throw, Go, Gauge, Gate, Below, Station, Run}
 use Rattle.syntax.specs.declared.grammar.Sort.{Sort}
 use Rattle.syntax.specs.declared.grammar.Sort.the-variants.{Types, Worlds, Terms, First, Further}
 use Rattle.syntax.specs.declared.program.Ty.{Ty}
-use Rattle.syntax.specs.declared.program.Ty.the-variants.{Num as Ty·Num, Never as Ty·Never, Fn as Ty·Fn, Boxed as Ty·Boxed, At as Ty·At, Both as Ty·Both}
-use Rattle.syntax.specs.declared.program.World.{World}
-use Rattle.syntax.specs.declared.program.World.the-variants.{Site as World·Site, Bound as World·Bound}
+use Rattle.syntax.specs.declared.program.Ty.the-variants.{Num as Ty·Num}
 use Rattle.syntax.specs.declared.program.Term.{Term}
-use Rattle.syntax.specs.declared.program.Mobile.the-variants.{Code, Address, Number}
-use Rattle.syntax.specs.declared.program.Term.the-variants.{Num as Term·Num, Value as Term·Value, Lam as Term·Lam, App as Term·App, Boxed as Term·Boxed, Unbox as Term·Unbox, Here as Term·Here, Letd as Term·Letd, Get as Term·Get, Pair as Term·Pair, Fst as Term·Fst, Snd as Term·Snd, Letcc as Term·Letcc, Throw as Term·Throw, Go as Term·Go, Gauge as Term·Gauge, Gate as Term·Gate, Below as Term·Below}
+use Rattle.syntax.specs.declared.program.Term.the-variants.{Num as Term·Num}
 use Rattle.instruments.specs.declared.sheet.Station.{Station as Counts}
 
 -- what was read so far; the values of the parts of open forms are on a stack
@@ -145,67 +139,3 @@ go (c ∷ bs) ws s i = elim (step ws s i c) [ on ws′ s′ ↦ go bs ws′ s′
 
 abbrev pub read : List ℕ → Outcome
 read bs = cond (ltb 65536 (length bs)) (refused 10 65536) (go bs (item First ∷ []) start-none 0)
-
-ex1 : read (codes "(station 33 0)") ≡ refused 14 9
-unfolding go
-ex1 = refl
-
-ex2 : read (codes "(station 3x 0)") ≡ refused 11 10
-unfolding go
-ex2 = refl
-
-ex3 : read (codes "(station 1 0)" ++ 10 ∷ codes "(run 0 (lam (fn num none) (getn (w 0) (num 65535))))" ++ 10 ∷ []) ≡ done (record { vals = []; depth = 0; tys = Ty·Fn 1 2 ∷ Ty·Num ∷ Ty·Never ∷ []; tms = Term·Lam 0 1 ∷ Term·Get Number (World·Bound 0) 2 ∷ Term·Num 65535 ∷ []; stations = record { gauges = 1; gates = 0 } ∷ []; start = 0 })
-unfolding go
-ex3 = refl
-
-ex4 : read (codes "(station 1 0)" ++ 10 ∷ codes "(run 0 (num 65536))") ≡ refused 11 30
-unfolding go
-ex4 = refl
-
-ex5 : read (codes "(station 1 0)" ++ 10 ∷ codes "(run 0 (lax 65536))") ≡ refused 11 24
-unfolding go
-ex5 = refl
-
-ex6 : read (codes "(station 1 0)" ++ 10 ∷ codes "(run 0 (num 65535)") ≡ refused 11 32
-unfolding go
-ex6 = refl
-
-ex7 : read (codes "(station 320 0)") ≡ refused 14 9
-unfolding go
-ex7 = refl
-
-ex8 : read (codes "(station 033") ≡ refused 11 10
-unfolding go
-ex8 = refl
-
-ex9 : read (codes "(station 99999") ≡ refused 14 9
-unfolding go
-ex9 = refl
-
-program1 : read (codes "(station 1 0)" ++ 10 ∷ codes "(station 0 1)" ++ 10 ∷ codes "(run 1 (gate 0 (getn (site 0) (gauge 0))))" ++ 10 ∷ []) ≡ done (record { vals = []; depth = 0; tys = []; tms = Term·Gate 0 1 ∷ Term·Get Number (World·Site 0) 2 ∷ Term·Gauge 0 ∷ []; stations = record { gauges = 1; gates = 0 } ∷ record { gauges = 0; gates = 1 } ∷ []; start = 1 })
-unfolding go
-program1 = refl
-
-program2 : read (codes "(station 1 0)" ++ 10 ∷ codes "(run 0 (letd (here (num 7)) (getn (w 0) (v 0))))" ++ 10 ∷ []) ≡ done (record { vals = []; depth = 0; tys = []; tms = Term·Letd 1 3 ∷ Term·Here 2 ∷ Term·Num 7 ∷ Term·Get Number (World·Bound 0) 4 ∷ Term·Value 0 ∷ []; stations = record { gauges = 1; gates = 0 } ∷ []; start = 0 })
-unfolding go
-program2 = refl
-
-program3 : read (codes "(station 1 0)" ++ 10 ∷ codes "(run 0 (lam (at (box num)) (letd (v 0) (getb (w 0) (v 0)))))" ++ 10 ∷ []) ≡ done (record { vals = []; depth = 0; tys = Ty·At 1 ∷ Ty·Boxed 2 ∷ Ty·Num ∷ []; tms = Term·Lam 0 1 ∷ Term·Letd 2 3 ∷ Term·Value 0 ∷ Term·Get Code (World·Bound 0) 4 ∷ Term·Value 0 ∷ []; stations = record { gauges = 1; gates = 0 } ∷ []; start = 0 })
-unfolding go
-program3 = refl
-
-program4 : read (codes "(station 1 0)" ++ 10 ∷ codes "(run 0 (letcc num (throw num 0 (num 5))))" ++ 10 ∷ []) ≡ done (record { vals = []; depth = 0; tys = Ty·Num ∷ Ty·Num ∷ []; tms = Term·Letcc 0 1 ∷ Term·Throw 1 0 2 ∷ Term·Num 5 ∷ []; stations = record { gauges = 1; gates = 0 } ∷ []; start = 0 })
-unfolding go
-program4 = refl
-
-program5 : read (codes "(station 1 0)" ++ 10 ∷ codes "(station 1 0)" ++ 10 ∷ codes "(run 0 (letcc num (getn (site 1) (throw num 0 (gauge 0)))))" ++ 10 ∷ []) ≡ done (record { vals = []; depth = 0; tys = Ty·Num ∷ Ty·Num ∷ []; tms = Term·Letcc 0 1 ∷ Term·Get Number (World·Site 1) 2 ∷ Term·Throw 1 0 3 ∷ Term·Gauge 0 ∷ []; stations = record { gauges = 1; gates = 0 } ∷ record { gauges = 1; gates = 0 } ∷ []; start = 0 })
-unfolding go
-program5 = refl
-
-program6 : read (codes "(station 1 0)" ++ 10 ∷ codes "(run 0 (app (lam num (lam num (v 1))) (num 3)))" ++ 10 ∷ []) ≡ done (record { vals = []; depth = 0; tys = Ty·Num ∷ Ty·Num ∷ []; tms = Term·App 1 4 ∷ Term·Lam 0 2 ∷ Term·Lam 1 3 ∷ Term·Value 1 ∷ Term·Num 3 ∷ []; stations = record { gauges = 1; gates = 0 } ∷ []; start = 0 })
-unfolding go
-program6 = refl
-
-program7 : read (codes "(station 1 0)" ++ 10 ∷ codes "(run 0 (go num (site 0) (num 1)))" ++ 10 ∷ []) ≡ done (record { vals = []; depth = 0; tys = Ty·Num ∷ []; tms = Term·Go 0 (World·Site 0) 1 ∷ Term·Num 1 ∷ []; stations = record { gauges = 1; gates = 0 } ∷ []; start = 0 })
-unfolding go
-program7 = refl

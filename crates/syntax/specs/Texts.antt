@@ -1,15 +1,16 @@
 -- The grammar's texts, in the grammar's own words: what is wanted, form by form.
 use mathlib.Core.Path.{_≡_}
 use mathlib.Core.List.{List, [], _∷_, _++_}
-use mathlib.Core.Bool.{Bool, true, false, _&&_}
-use Prim.Native.Nat.{ℕ, _+_, _*_, _-_, _<_, _≤_}
+use mathlib.Core.Bool.{Bool, true, false, cond, _&&_}
+use Prim.Native.Nat.{ℕ, _+_, _*_, _-_, _<_}
 use lib.Dec.{eqb}
+use lib.ListN.{length}
 use Rattle.syntax.specs.Grammar.{Stop, Want, byte, wants, words}
 use Rattle.syntax.specs.Grammar.Want.{stop, number, digits, item, word}
 use Rattle.syntax.specs.Reading.{digit}
 use Rattle.syntax.specs.declared.grammar.Form.{Form}
 use Rattle.syntax.specs.declared.grammar.Sort.{Sort}
-use Rattle.syntax.specs.declared.grammar.Sort.the-variants.{First}
+use Rattle.syntax.specs.declared.grammar.Sort.the-variants.{Types, Worlds, Terms, First, Further}
 
 pub data In : List ℕ → Form → List (List ℕ × Form) → Type 0 where
   here : {w : List ℕ} {f : Form} {ks : List (List ℕ × Form)} → In w f ((w, f) ∷ ks)
@@ -56,7 +57,48 @@ shown (rest k p v a ds hs l t) = ds ++ byte a ∷ shown t
 shown (pick o b d w f m t) = b ∷ d ∷ w ++ shown t
 shown (spell o ks h b w f m t) = b ∷ w ++ shown t
 
--- some text of the language begins so
-abbrev pub Begins : List ℕ → Type 0
-Begins bs = (t : Text (item First ∷ [])) × ((more : List ℕ) × (shown t ≡ bs ++ more))
+-- what can begin at a place of a text: a line, a G or an H, a term, a type
+pub data New : Type 0 where
+  new-line : New
+  new-count : New
+  new-term : New
+  new-type : New
 
+-- an item of the sort is one
+abbrev pub new-item : New → Sort → Bool
+new-item new-line Types = false
+new-item new-line Worlds = false
+new-item new-line Terms = false
+new-item new-line First = true
+new-item new-line Further = true
+new-item new-count o = false
+new-item new-term Types = false
+new-item new-term Worlds = false
+new-item new-term Terms = true
+new-item new-term First = false
+new-item new-term Further = false
+new-item new-type Types = true
+new-item new-type Worlds = false
+new-item new-type Terms = false
+new-item new-type First = false
+new-item new-type Further = false
+
+-- a number is one, if it counts registers
+abbrev pub new-number : New → Bool → Bool
+new-number new-line k = false
+new-number new-count k = k
+new-number new-term k = false
+new-number new-type k = false
+
+abbrev pub noted : Bool → ℕ → List ℕ → List ℕ
+noted b i ps = cond b (i ∷ ps) ps
+
+-- the places where such begin in a text that begins at the place i, in their order
+abbrev pub places : New → {ws : List Want} → Text ws → ℕ → List ℕ
+places x end i = []
+places x (past a t) i = places x t (i + 1)
+places x (nought k a t) i = noted (new-number x k) i (places x t (i + 2))
+places x (some k a c ds h n hs l t) i = noted (new-number x k) i (places x t (i + length ds + 2))
+places x (rest k p v a ds hs l t) i = places x t (i + length ds + 1)
+places x (pick o b d w f m t) i = noted (new-item x o) i (places x t (i + length w + 2))
+places x (spell o ks h b w f m t) i = places x t (i + length w + 1)

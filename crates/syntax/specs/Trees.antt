@@ -1,18 +1,17 @@
 -- Programs as trees, how one is written, and its tables.
-use mathlib.Core.Path.{_≡_, refl}
+use mathlib.Core.Path.{_≡_}
 use mathlib.Core.List.{List, [], _∷_, _++_}
-use mathlib.Core.Bool.{Bool, true, false, cond}
+use mathlib.Core.Bool.{cond}
 use Prim.Native.Nat.{ℕ, _+_, _<_, _≤_, max}
 use lib.Dec.{eqb}
 use lib.ListN.{length}
-use lib.Chars.{codes}
 use Rattle.std.specs.Written.{decimal}
-use Rattle.syntax.specs.Grammar.{Stop, Part, Kind, Made, row, parts, spelling, last, byte, sort-of}
-use Rattle.syntax.specs.Grammar.Stop.{space, close, line}
+use Rattle.syntax.specs.Grammar.{Stop, Part, Made, row, parts, spelling, last, byte, sort-of}
+use Rattle.syntax.specs.Grammar.Stop.{space, close}
 use Rattle.syntax.specs.Grammar.Part.{num, sub}
-use Rattle.syntax.specs.Grammar.Kind.{type, world, term}
+use Rattle.syntax.specs.Grammar.Kind.{term}
 use Rattle.syntax.specs.Grammar.Made.{a-type, a-world, a-term, a-station, a-start}
-use Rattle.syntax.specs.Reading.{Seen, Outcome, read}
+use Rattle.syntax.specs.Reading.{Seen}
 use Rattle.syntax.specs.declared.grammar.Form.{Form}
 use Rattle.syntax.specs.declared.grammar.Form.the-variants.{Station, Run}
 use Rattle.syntax.specs.declared.grammar.Sort.{Sort}

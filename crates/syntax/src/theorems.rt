@@ -1,18 +1,18 @@
-ghost use Rattle.syntax.specs.Promises.{Refused-right, Refused-all, Accepted-right, Read-right, Read-all, Read-one, Restored, Deep-right, Limit-right, Doomed-right, Sheet-right};
+ghost use Rattle.syntax.specs.Promises.{Refused-exactly, Accepted-exactly, One-grammar, One-count, Read-right, Read-all, Read-sound, Read-low, Read-one, Restored, Limit-right};
 
 // The theorems of reading.
 pub fn reading_stands() -> u8
-    ensures refused { λ _. ⌜ Refused-right ⌝ }
-    ensures eleven { λ _. ⌜ Refused-all ⌝ }
-    ensures accepted { λ _. ⌜ Accepted-right ⌝ }
+    ensures refused { λ _. ⌜ Refused-exactly ⌝ }
+    ensures unrefused { λ _. ⌜ Accepted-exactly ⌝ }
+    ensures grammar { λ _. ⌜ One-grammar ⌝ }
+    ensures count { λ _. ⌜ One-count ⌝ }
     ensures right { λ _. ⌜ Read-right ⌝ }
     ensures all { λ _. ⌜ Read-all ⌝ }
+    ensures sound { λ _. ⌜ Read-sound ⌝ }
+    ensures low { λ _. ⌜ Read-low ⌝ }
     ensures one { λ _. ⌜ Read-one ⌝ }
     ensures restored { λ _. ⌜ Restored ⌝ }
-    ensures deep { λ _. ⌜ Deep-right ⌝ }
     ensures limit { λ _. ⌜ Limit-right ⌝ }
-    ensures doomed { λ _. ⌜ Doomed-right ⌝ }
-    ensures sheet { λ _. ⌜ Sheet-right ⌝ }
 {
     0
 }

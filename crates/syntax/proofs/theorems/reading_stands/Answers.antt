@@ -1,9 +1,10 @@
-use Rattle.syntax.proofs.Places.{refused-right, refused-all, accepted-right}
+use Rattle.syntax.proofs.Spelled.{one-grammar}
 use Rattle.syntax.proofs.Exact.{read-right, read-all, read-one, restored, limit-right}
-use Rattle.syntax.proofs.Depths.{deep-right}
-use Rattle.syntax.proofs.Halts.{doomed-right}
-use Rattle.syntax.proofs.Sheets.{sheet-right}
+use Rattle.syntax.proofs.Numbered.{read-sound}
+use Rattle.syntax.proofs.Heights.{read-low}
+use Rattle.syntax.proofs.Same.{one-count}
+use Rattle.syntax.proofs.Order.{refused-exactly, accepted-exactly}
 use Rattle.syntax.proofs.theorems.reading_stands.Needs as need
 
 pub returns : need.returns
-returns c = record { refused = refused-right; eleven = refused-all; accepted = accepted-right; right = read-right; all = read-all; one = read-one; restored = restored; deep = deep-right; limit = limit-right; doomed = doomed-right; sheet = sheet-right }
+returns c = record { refused = refused-exactly; unrefused = accepted-exactly; grammar = one-grammar; count = one-count; right = read-right; all = read-all; sound = read-sound; low = read-low; one = read-one; restored = restored; limit = limit-right }
