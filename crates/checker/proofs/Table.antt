@@ -11,7 +11,7 @@ use Rattle.std.proofs.shelf.Tests.{cases-lt}
 use Rattle.syntax.specs.declared.program.Ty.{Ty as TypeRow}
 use Rattle.syntax.specs.declared.program.Ty.the-variants as Row
 use Rattle.calculus.specs.Types.{Ty, num, none, fn, box, at, both}
-use Rattle.calculus.specs.Program.{Program, decoded, decode, grow-type, AboveType, Sorted}
+use Rattle.calculus.specs.Program.{decoded, grow-type}
 use Rattle.calculus.proofs.Decoding.{type-recurs}
 use Rattle.checker.specs.TypeTable.{written-types, built-types, meaning, Below, Given, Laid}
 
@@ -107,19 +107,15 @@ module _ (w : ℕ) (rows : List TypeRow) (some-rows : w ≤ length rows) where
       ∙ ap (λ m. getD (before n ++ x ∷ []) m num) (sym (length-before n h (omega arith))) ∙ getD-end (before n) x
 
 module _ (w : ℕ) (rows : List TypeRow) (laid : Laid w rows) where
-  text : Program
-  text = record { sheet = []; types = take w rows; terms = []; start = 0 }
-
   -- a number stands for its row, over what the row's parts stand for
   pub meaning-at : (n : ℕ) (r : TypeRow) → n < length rows → getD rows n Row.Num ≡ r → meaning w rows n ≡ grow-type (meaning w rows) r
-  unfolding text
   meaning-at n r h e =
       ⊎-elim
       (λ (l : n < w).
           let s = laid .some in
           let k : n < length (take w rows) = omega (arith, length-take-le w rows s) in
           let g : getElem? (take w rows) n ≡ some r = getElem-getD (take w rows) n Row.Num k ∙ ap (λ (x : TypeRow). some x) (getD-take w rows n Row.Num l ∙ e) in
-          meaning-written w rows s n l ∙ type-recurs text (record { terms = tt; types = laid .ordered }) n r g
+          meaning-written w rows s n l ∙ type-recurs (take w rows) (laid .ordered) n r g
           ∙ grow-below (λ c. getD (written-types (take w rows)) c num) (meaning w rows) w r (laid .written n r l e) (λ c m. sym (meaning-written w rows s c m)))
       (λ (l : w ≤ n).
           let s = laid .some in

@@ -4,3 +4,5 @@ pub mod TypeTable
 pub mod Comparing
 -- the context that a scope list stands for
 pub mod Scopes
+-- what judging a term answers and leaves
+pub mod Judging
