@@ -6,3 +6,5 @@ pub mod Comparing
 pub mod Scopes
 -- what judging a term answers and leaves
 pub mod Judging
+-- what counts, worlds and registers of a term stand for
+pub mod Lookups

@@ -1,5 +1,6 @@
 // Type-checking a program.
 mod binding;
 pub mod context;
+mod lookups;
 mod tables;
 pub mod types;
