@@ -1,3 +1,4 @@
 pub mod Table
 pub mod Compare
 pub mod Counts
+pub mod Verdicts

@@ -3,7 +3,7 @@ use mathlib.Core.Path.{_≡_}
 use mathlib.Core.Bool.{cond}
 use mathlib.Core.List.{List, [], _∷_, _++_}
 use Prim.Native.Nat.{ℕ, suc, _+_, _<_, _≤_}
-use lib.ListN.{length, take}
+use lib.ListN.{length, getD, take}
 use Rattle.std.specs.declared.result.Result.{Result}
 use Rattle.std.specs.declared.result.Result.the-variants.{Ok, Err}
 use Rattle.std.specs.declared.option.Option.{Option}
@@ -16,13 +16,15 @@ use Rattle.syntax.specs.declared.program.Ty.the-variants as Row
 use Rattle.syntax.specs.declared.program.Term.{Term as TermRow}
 use Rattle.syntax.specs.declared.program.Term.the-variants as Term
 use Rattle.calculus.specs.Types.{Ty}
-use Rattle.calculus.specs.Program.{Program, decode}
-use Rattle.calculus.specs.Checker.{Checked, typed, refused}
+use Rattle.calculus.specs.Program.{Program, decode, type-of}
+use Rattle.calculus.specs.Checker.{Checked, typed, refused, expecting, examine, judge}
+use Rattle.syntax.specs.Sound.{Term-sound}
+use Rattle.checker.specs.declared.context.At.{At}
 use Rattle.checker.specs.declared.context.Context.{Context}
 use Rattle.checker.specs.declared.context.Bound.{Bound}
 use Rattle.checker.specs.TypeTable.{meaning, Below, Given, Laid}
 use Rattle.checker.specs.Comparing.{alike}
-use Rattle.checker.specs.Scopes.{values-of, continuations-of, rows-of, meaning-of, Kept}
+use Rattle.checker.specs.Scopes.{values-of, continuations-of, rows-of, meaning-of, context-of, world-of, Kept}
 
 -- the program that is checked: its stations and terms, and the written types of a scope list
 abbrev pub checked-program : Context → List Station → List TermRow → Program
@@ -63,13 +65,41 @@ pub record Ready (c : Context) : Type 0 where
   pub values : Each-below (length (rows-of c)) (values-of c)
   pub continuations : Each-below (c .written) (continuations-of c)
 
--- a term has the type with this number: types were added, at most `more` of them
-pub record Typed (c : Context) (v : Checked) (n more : ℕ) (d : Context) : Type 0 where
-  pub number : n < length (rows-of d)
-  pub verdict : v ≡ typed (meaning-of d n)
+-- the terms of a table lead to terms and types that are there
+abbrev pub Sound-terms : ℕ → List TermRow → Type 0
+Sound-terms types terms = (n : ℕ) → n < length terms → Term-sound types (n + 1) (length terms) (getD terms n (Term.Num 0))
+
+-- what judging a term asks: there is room for a type for each of its terms, and no more is bound than terms stand before it
+pub record Asks (c : Context) (terms : List TermRow) (term : ℕ) : Type 0 where
+  pub ready : Ready c
+  pub sound : Sound-terms (c .written) terms
+  pub within : term < length terms
+  pub short : length terms ≤ 1024
+  pub room : length (rows-of c) + size terms term ≤ c .written + 1024
+  pub few : c .written ≤ 512
+  pub values : c .height .values ≤ term
+  pub worlds : c .height .worlds ≤ term
+  pub continuations : c .height .continuations ≤ term
+
+-- the verdict on a term, and on a row in its place
+abbrev pub verdict : Context → List Station → List TermRow → ℕ → At → Checked
+verdict c stations terms term w = judge (checked-program c stations terms) term (context-of c) (world-of w)
+
+abbrev pub row-verdict : Context → List Station → List TermRow → ℕ → TermRow → At → Checked
+row-verdict c stations terms term row w =
+    let P = checked-program c stations terms in examine stations (type-of P) term (judge P) row (context-of c) (world-of w)
+
+-- types were added, at most `more` of them
+pub record Grown (c : Context) (more : ℕ) (d : Context) : Type 0 where
   pub laid : Laid (d .written) (rows-of d)
   pub front : take (length (rows-of c)) (rows-of d) ≡ rows-of c
   pub few : length (rows-of d) ≤ length (rows-of c) + more
+
+-- a term has the type with this number
+pub record Typed (c : Context) (v : Checked) (n more : ℕ) (d : Context) : Type 0 where
+  pub number : n < length (rows-of d)
+  pub verdict : v ≡ typed (meaning-of d n)
+  pub grown : Grown c more d
 
 abbrev pub Answers : Context → Checked → Result ℕ CheckFault → ℕ → Context → Type 0
 Answers c v (Ok n) more d = Typed c v n more d
@@ -78,6 +108,21 @@ Answers c v (Err e) more d = v ≡ refused e
 -- what judging answers where the verdict is v
 pub record Judged (c : Context) (v : Checked) (r : Result ℕ CheckFault) (more : ℕ) (d : Context) : Type 0 where
   pub answer : Answers c v r more d
+
+-- a part with verdict v has the type A that it needs, and checking goes on
+pub record Fits (c : Context) (v : Checked) (A : Ty) (part n more : ℕ) (d : Context) : Type 0 where
+  pub number : n < length (rows-of d)
+  pub is : meaning-of d n ≡ A
+  pub goes : (k : Checked) → expecting part v A k ≡ k
+  pub grown : Grown c more d
+
+abbrev pub Holds : Context → Checked → Ty → ℕ → Result ℕ CheckFault → ℕ → Context → Type 0
+Holds c v A part (Ok n) more d = Fits c v A part n more d
+Holds c v A part (Err e) more d = (k : Checked) → expecting part v A k ≡ refused e
+
+-- what holding a part to a type answers
+pub record Held (c : Context) (v : Checked) (A : Ty) (part : ℕ) (r : Result ℕ CheckFault) (more : ℕ) (d : Context) : Type 0 where
+  pub answer : Holds c v A part r more d
 
 -- a scope list binds what it bound
 pub record Same (c d : Context) : Type 0 where
