@@ -1,6 +1,6 @@
 -- What judging a term answers and leaves.
 use mathlib.Core.Path.{_≡_}
-use mathlib.Core.Bool.{cond}
+use mathlib.Core.Bool.{Bool, true, false, cond}
 use mathlib.Core.List.{List, [], _∷_, _++_}
 use Prim.Native.Nat.{ℕ, suc, _+_, _<_, _≤_}
 use lib.ListN.{length, getD, take}
@@ -8,6 +8,9 @@ use Rattle.std.specs.declared.result.Result.{Result}
 use Rattle.std.specs.declared.result.Result.the-variants.{Ok, Err}
 use Rattle.std.specs.declared.option.Option.{Option}
 use Rattle.std.specs.declared.option.Option.the-variants.{Some, None}
+use Rattle.std.specs.Options.{isSome}
+use Rattle.syntax.specs.declared.program.Mobile.{Mobile}
+use Rattle.syntax.specs.declared.program.Mobile.the-variants.{Code, Address, Number}
 use Rattle.lines.specs.declared.refusal.CheckFault.{CheckFault}
 use Rattle.lines.specs.declared.refusal.CheckFault.the-variants.{Mismatch}
 use Rattle.instruments.specs.declared.sheet.Station.{Station}
@@ -20,6 +23,7 @@ use Rattle.calculus.specs.Program.{Program, decode, type-of}
 use Rattle.calculus.specs.Checker.{Checked, typed, refused, expecting, examine, judge}
 use Rattle.syntax.specs.Sound.{Term-sound}
 use Rattle.checker.specs.declared.context.At.{At}
+use Rattle.checker.specs.declared.context.Height.{Height}
 use Rattle.checker.specs.declared.context.Context.{Context}
 use Rattle.checker.specs.declared.context.Bound.{Bound}
 use Rattle.checker.specs.TypeTable.{meaning, Below, Given, Laid}
@@ -129,6 +133,12 @@ pub record Same (c d : Context) : Type 0 where
   pub height : d .height ≡ c .height
   pub kept : Kept (c .height) c d
 
+-- one height is under another
+pub record Under (h k : Height) : Type 0 where
+  pub values : h .values ≤ k .values
+  pub worlds : h .worlds ≤ k .worlds
+  pub continuations : h .continuations ≤ k .continuations
+
 -- a type was built
 pub record Built (c : Context) (row : TypeRow) (n : ℕ) (d : Context) : Type 0 where
   pub number : n ≡ length (rows-of c)
@@ -167,6 +177,28 @@ both-parts (Row.Fn a b) = None
 both-parts (Row.Boxed a) = None
 both-parts (Row.At a) = None
 both-parts (Row.Both a b) = Some (a, b)
+
+abbrev pub num-row : TypeRow → Bool
+num-row Row.Num = true
+num-row Row.Never = false
+num-row (Row.Fn a b) = false
+num-row (Row.Boxed a) = false
+num-row (Row.At a) = false
+num-row (Row.Both a b) = false
+
+abbrev pub never-row : TypeRow → Bool
+never-row Row.Num = false
+never-row Row.Never = true
+never-row (Row.Fn a b) = false
+never-row (Row.Boxed a) = false
+never-row (Row.At a) = false
+never-row (Row.Both a b) = false
+
+-- a type that a get may bring
+abbrev pub carried-row : Mobile → TypeRow → Bool
+carried-row Code r = isSome (boxed-part r)
+carried-row Address r = isSome (at-part r)
+carried-row Number r = num-row r
 
 -- a part is held to the type that it needs
 abbrev pub held : Ty → Ty → ℕ → Result Unit CheckFault

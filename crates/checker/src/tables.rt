@@ -5,10 +5,11 @@ ghost use lib.ListN.{length, getD};
 ghost use Rattle.syntax.specs.declared.program.Ty.the-variants.{Num as Num-row};
 ghost use Rattle.checker.specs.TypeTable.{Laid, Below, Given};
 ghost use Rattle.checker.specs.Scopes.{rows-of, meaning-of};
-ghost use Rattle.checker.specs.Judging.{Built, fn-parts, boxed-part, at-part, both-parts, held};
+ghost use Rattle.checker.specs.Judging.{Built, fn-parts, boxed-part, at-part, both-parts, num-row, never-row, carried-row, held};
 use crate::context::Context;
 use crate::types::same;
 use lines::refusal::CheckFault;
+use syntax::program::Mobile;
 use syntax::program::Ty;
 
 impl Context {
@@ -67,6 +68,42 @@ impl Context {
         match row {
             Ty::Both { left, right } => Some((left, right)),
             _ => None,
+        }
+    }
+
+    // Whether a type is `num`.
+    pub(crate) fn is_num(&self, number: u16) -> bool
+        requires { ⌜ number < length (rows-of (now self)) ⌝ }
+        ensures { λ r. ⌜ r ≡ num-row (getD (rows-of (now (self .entry))) number Num-row) ⌝ }
+    {
+        let row = self.types[number as usize];
+        match row {
+            Ty::Num => true,
+            _ => false,
+        }
+    }
+
+    // Whether a type is `none`.
+    pub(crate) fn is_never(&self, number: u16) -> bool
+        requires { ⌜ number < length (rows-of (now self)) ⌝ }
+        ensures { λ r. ⌜ r ≡ never-row (getD (rows-of (now (self .entry))) number Num-row) ⌝ }
+    {
+        let row = self.types[number as usize];
+        match row {
+            Ty::Never => true,
+            _ => false,
+        }
+    }
+
+    // Whether a get may bring a value of a type.
+    pub(crate) fn is_carried(&self, mobile: Mobile, number: u16) -> bool
+        requires { ⌜ number < length (rows-of (now self)) ⌝ }
+        ensures { λ r. ⌜ r ≡ carried-row mobile (getD (rows-of (now (self .entry))) number Num-row) ⌝ }
+    {
+        match mobile {
+            Mobile::Code => self.as_boxed(number).is_some(),
+            Mobile::Address => self.as_at(number).is_some(),
+            Mobile::Number => self.is_num(number),
         }
     }
 
