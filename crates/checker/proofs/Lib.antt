@@ -2,3 +2,5 @@ pub mod Table
 pub mod Compare
 pub mod Counts
 pub mod Verdicts
+pub mod Arms
+pub mod Rows

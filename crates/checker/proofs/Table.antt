@@ -44,7 +44,7 @@ built-keeps ms (x ∷ xs) n h =
     built-keeps ns xs n (omega (arith, length-snoc ms (grow-type (λ n. getD ms n num) x))) ∙ getD-before ms (grow-type (λ n. getD ms n num) x) n h
 
 -- a row says the same of two tables that agree on its parts
-grow-below : (f g : ℕ → Ty) (n : ℕ) (r : TypeRow) → Below n r → ((c : ℕ) → c < n → f c ≡ g c) → grow-type f r ≡ grow-type g r
+pub grow-below : (f g : ℕ → Ty) (n : ℕ) (r : TypeRow) → Below n r → ((c : ℕ) → c < n → f c ≡ g c) → grow-type f r ≡ grow-type g r
 grow-below f g n Row.Num b h = refl
 grow-below f g n Row.Never b h = refl
 grow-below f g n (Row.Fn x y) b h = λ i. fn (h x (b .0) i) (h y (b .1) i)
@@ -52,7 +52,7 @@ grow-below f g n (Row.Boxed x) b h = λ i. box (h x b i)
 grow-below f g n (Row.At x) b h = λ i. at (h x b i)
 grow-below f g n (Row.Both x y) b h = λ i. both (h x (b .0) i) (h y (b .1) i)
 
-getElem-getD : {A : Type 0} (xs : List A) (n : ℕ) (d : A) → n < length xs → getElem? xs n ≡ some (getD xs n d)
+pub getElem-getD : {A : Type 0} (xs : List A) (n : ℕ) (d : A) → n < length xs → getElem? xs n ≡ some (getD xs n d)
 getElem-getD [] n d h = absurd (omega arith)
 getElem-getD (x ∷ xs) zero d h = refl
 getElem-getD (x ∷ xs) (suc n) d h = getElem-getD xs n d (omega arith)
