@@ -4,3 +4,5 @@ pub mod Counts
 pub mod Verdicts
 pub mod Arms
 pub mod Rows
+pub mod Binders
+pub mod Opening
