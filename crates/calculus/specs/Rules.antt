@@ -11,13 +11,18 @@ use Rattle.calculus.specs.Network.{Frame, Continuation, push, eval, back, Site
 
 -- The step rules: what to do with one form that is evaluated, or with one frame that gets its value.
 pub data Rule : Type 0 where
-  -- evaluating
+  -- evaluating a value: back with it; `value` is a bound value or a label
   num lam box value : Rule
+  -- evaluating a form whose first part is evaluated under a frame; `compare` is `below`
   app unbox here letd pair fst snd compare gate : Rule
+  -- evaluating the other forms
   getb getd getn letcc throw go gauge : Rule
-  -- back with a value
+  -- back with the value of a first part: the second part is next
   app-next pair-next compare-next : Rule
-  apply paired first second choose unboxed publish bind set return : Rule
+  -- back with the value that a frame waited for: of `app`, `pair`, `fst`, `snd`, `below`, `unbox`, `here`, `letd` and `gate`
+  apply paired first second choose unboxed publish bind set : Rule
+  -- back with a value for another site
+  return : Rule
 
 -- A rule fits if phase, term or frame and the kinds of values are as it says, and its entries and registers exist.
 pub data Fits (S : Sheet) : Rule → Network → Type 0 where
