@@ -14,7 +14,7 @@ use Rattle.calculus.specs.Step.{Works, Instrument, a-gauge, a-gate, Event, qui
 use Rattle.calculus.specs.Program.{Program, Ordered}
 use Rattle.calculus.specs.NetworkTyping.{Agrees}
 use Rattle.calculus.specs.Checker.{typed, check}
-use Rattle.calculus.specs.Limits.{lacks}
+use Rattle.calculus.specs.Limits.{room, lacks}
 
 -- Why a run ended. The first of these that holds is given.
 pub data Ending : Type 0 where
@@ -155,11 +155,11 @@ stand-of (Machine.state H w k p c) qs =
 
 -- No table holds more than it has places for.
 pub record Within (M : Machine.State) : Type 0 where
-  pub frames : Machine.places-of M .frames ≤ 4096
-  pub bindings : Machine.places-of M .bindings ≤ 4096
-  pub pairs : Machine.places-of M .pairs ≤ 2048
-  pub published : (s : ℕ) → count (Machine.sites-of M .published) s ≤ 128
-  pub kept : (s : ℕ) → count (Machine.sites-of M .kept) s ≤ 256
+  pub frames : Machine.places-of M .frames ≤ room .frames
+  pub bindings : Machine.places-of M .bindings ≤ room .bindings
+  pub pairs : Machine.places-of M .pairs ≤ room .pairs
+  pub published : (s : ℕ) → count (Machine.sites-of M .published) s ≤ room .published
+  pub kept : (s : ℕ) → count (Machine.sites-of M .kept) s ≤ room .kept
 
 -- A run from a state within the limits ends in one.
 abbrev pub StaysWithin : Type 0
