@@ -1,4 +1,6 @@
 -- What a step does to the works, as its event says.
+use Rattle.std.specs.declared.option.Option.{Option as Shows}
+use Rattle.std.specs.declared.option.Option.the-variants.{Some, None}
 use lib.Dec.{ltb}
 use mathlib.Core.Bool.{cond}
 use mathlib.Core.Path.{_≡_, refl, _∙_, subst, subst⁻¹}
@@ -20,7 +22,7 @@ abbrev pub Effect : Works → Event → Works → Type 0
 Effect v quiet u = u ≡ v
 Effect v (looked s l w) u = u ≡ v
 Effect v (was-read s g w) u = u ≡ v
-Effect v (was-set s g x w) u = (u ≡ record { gauges = v .gauges; gates = put (v .gates) s g (some x) }) × ((y : Option ℕ) × (entry (v .gates) s g ≡ some y))
+Effect v (was-set s g x w) u = (u ≡ record { gauges = v .gauges; gates = put (v .gates) s g (Some x) }) × ((y : Shows ℕ) × (entry (v .gates) s g ≡ some y))
 
 -- what is said of an outcome of a step from N
 abbrev Told : Works → Network → Outcome → Type 0
@@ -45,15 +47,15 @@ module _ (v : Works) (H : Sites) (w : ℕ) where
   throw-told N (outer k) m = tt
   throw-told N (kept s c) m = resume-told N s (eval m) (entry (H .kept) s c)
 
-  gauge-told : (k : Continuation) (n : ℕ) (o : Option (Option ℕ)) → entry (v .gauges) w n ≡ o → Told v (network H w k (eval (gauge n))) (gauge-shows v H w k n o)
+  gauge-told : (k : Continuation) (n : ℕ) (o : Option (Shows ℕ)) → entry (v .gauges) w n ≡ o → Told v (network H w k (eval (gauge n))) (gauge-shows v H w k n o)
   gauge-told k n nothing e = tt
-  gauge-told k n (some nothing) e = to-read e
-  gauge-told k n (some (some x)) e = refl
+  gauge-told k n (some None) e = to-read e
+  gauge-told k n (some (Some x)) e = refl
 
-  gate-told : (k : Continuation) (g x : ℕ) (o : Option (Option ℕ)) → entry (v .gates) w g ≡ o → Told v (network H w (push (setting g) k) (back (number x))) (gate-set v H w k g x o)
+  gate-told : (k : Continuation) (g x : ℕ) (o : Option (Shows ℕ)) → entry (v .gates) w g ≡ o → Told v (network H w (push (setting g) k) (back (number x))) (gate-set v H w k g x o)
   gate-told k g x nothing e = tt
-  gate-told k g x (some nothing) e = to-set e
-  gate-told k g x (some (some y)) e = (refl, (some y, e))
+  gate-told k g x (some None) e = to-set e
+  gate-told k g x (some (Some y)) e = (refl, (Some y, e))
 
   eval-told : (k : Continuation) (m : Term) → Told v (network H w k (eval m)) (eval-step v H w k m)
   eval-told k (val u) = refl
@@ -160,7 +162,7 @@ agrees-still S v quiet u q a = subst⁻¹ (Agrees S) q a
 agrees-still S v (looked s l w) u q a = subst⁻¹ (Agrees S) q a
 agrees-still S v (was-read s g w) u q a = subst⁻¹ (Agrees S) q a
 agrees-still S v (was-set s g x w) u q a =
-    subst⁻¹ (Agrees S) (q .0) (record { gauges = a .gauges; gates = λ r. count-put (v .gates) s g (some x) r ∙ a .gates r })
+    subst⁻¹ (Agrees S) (q .0) (record { gauges = a .gauges; gates = λ r. count-put (v .gates) s g (Some x) r ∙ a .gates r })
 
 pub agrees-after : (S : Sheet) (v : Works) (N : Network) (M : Network) (u : Works) (e : Event) → Agrees S v → step v N ≡ stepped M u e → Agrees S u
 agrees-after S v N M u e a q = agrees-still S v e u (effect v N M u e q) a
