@@ -7,8 +7,7 @@ use mathlib.Core.Option.{some, none as nothing}
 use lib.ListN.{length}
 use lib.Dec.{eqb}
 use Rattle.calculus.specs.Machine
-use Rattle.calculus.specs.Types.{Ty, site}
-use Rattle.calculus.specs.Terms.{kept}
+use Rattle.calculus.specs.Types.{Ty}
 use Rattle.calculus.specs.Tables.{Table, count}
 use Rattle.calculus.specs.Step.{Works, Instrument, a-gauge, a-gate, Event, quiet, looked, was-read, was-set}
 use Rattle.calculus.specs.Program.{Program, Ordered}
@@ -32,9 +31,11 @@ pub record Result : Type 0 where
   pub works : Works
   pub end : Machine.State
 
+-- a run that ends where it starts
 abbrev pub stop : Ending → Works → Machine.State → Result
 stop e v M = record { ending = e; steps = 0; events = []; works = v; end = M }
 
+-- one step before a run
 abbrev pub one-more : Event → Result → Result
 one-more e r = record { ending = r .ending; steps = suc (r .steps); events = e ∷ r .events; works = r .works; end = r .end }
 
@@ -127,6 +128,7 @@ abbrev pub total : {A : Type 0} → Table A → ℕ
 total [] = 0
 total (r ∷ t) = length r + total t
 
+-- the phase that is shown
 pub data Shown : Type 0 where
   evaluating : Shown
   returning : Shown
