@@ -66,3 +66,11 @@ module _ (S : Sheet) (H : Sites) (w : ℕ) where
 -- a rule fits a network
 abbrev pub Fits : Sheet → Rule → Network → Type 0
 Fits S r (network H w k p) = Fit S H w r k p
+
+-- exactly one rule fits
+abbrev pub OneFits : Sheet → Network → Type 0
+OneFits S N = (r : Rule) × Fits S r N × ((q : Rule) → Fits S q N → q ≡ r)
+
+-- no rule fits
+abbrev pub NoneFits : Sheet → Network → Type 0
+NoneFits S N = (q : Rule) → Fits S q N → ⊥
