@@ -2,8 +2,8 @@
 use mathlib.Core.Path.{_≡_, refl, _∙_, ap, subst, fun-ext}
 use Prim.Native.Nat.{_+_, ℕ, zero, suc, _<_, _-_}
 use mathlib.Core.List.{List, [], _∷_}
-use mathlib.Core.Option.{some, none as nothing, Option·some-injective, Option·none-ne-some, Option·some-ne-none}
-use native.Mathlib.Nat.{sub-zero}
+use mathlib.Core.Option.{some, none as nothing, Option·some-injective, Option·none-ne-some, Option·some-ne-none, Option}
+use native.Mathlib.Nat.{not-suc-le-zero, le-of-suc-le-suc, sub-zero}
 use native.Mathlib.Omega.{arith}
 use lib.ListN.{length, getElem?, getD}
 use Rattle.syntax.specs.declared.program.Ty.{Ty as TypeRow}
@@ -17,6 +17,18 @@ use Rattle.calculus.specs.Terms.{outer, lam, app, boxed, unbox, here, letd, ge
 use Rattle.calculus.specs.Typing.{bind-value, bind-world, bind-continuation}
 use Rattle.calculus.specs.Program.{Program, decoded, decode, grow-type, type-of, deeper-value, deeper-world, deeper-continuation, level, world-at, Tree, grow, stump, tree, Above, AboveType, Sorted, Ordered}
 use Rattle.calculus.specs.Checker.{typed, then-type, need, when-fn, when-box, when-at, when-both, when-mobile, when-site, expecting, bound-continuation, is-known, Judge, examine, nowhere, JudgeRecurs, TypeRecurs}
+
+-- a row that is read by its number
+pub row-read : {A : Type 0} (rs : List A) (n : ℕ) (d r : A) → n < length rs → getD rs n d ≡ r → getElem? rs n ≡ some r
+row-read [] n d r h e = absurd (not-suc-le-zero h)
+row-read {A} (x ∷ rs) zero d r h e = ap {B = Option A} some e
+row-read (x ∷ rs) (suc n) d r h e = row-read rs n d r (le-of-suc-le-suc h) e
+
+-- what holds of each row holds of that row
+pub sorted-at : {A : Type 0} (Q : ℕ → A → Type 0) (k : ℕ) (rs : List A) → Sorted Q k rs → (n m : ℕ) → m ≡ k + n → (r : A) → getElem? rs n ≡ some r → Q m r
+sorted-at Q k [] o n m q r e = absurd (Option·none-ne-some r e)
+sorted-at Q k (x ∷ rs) o zero m q r e = let z : k ≡ m = omega arith in subst (λ (j : ℕ). Q j r) z (subst (Q k) (Option·some-injective x r e) (o .0))
+sorted-at Q k (x ∷ rs) o (suc n) m q r e = sorted-at Q (suc k) rs (o .1) n m (omega arith) r e
 
 -- In a table whose parts have larger numbers, a row stands for what is made from what its parts stand for.
 module _ {A B : Type 0} (make : ℕ → (ℕ → B) → A → B) (missing : B) (Parts : ℕ → A → Type 0) where

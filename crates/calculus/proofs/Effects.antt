@@ -1,14 +1,18 @@
 -- What a step does to the works, as its event says.
+use Rattle.std.specs.declared.option.Option.{Option as Shows}
+use Rattle.std.specs.declared.option.Option.the-variants.{Some, None}
+use lib.Dec.{ltb}
+use mathlib.Core.Bool.{cond}
 use mathlib.Core.Path.{_≡_, refl, _∙_, subst, subst⁻¹}
 use Prim.Native.Nat.{ℕ}
 use mathlib.Core.List.{List, [], _∷_}
 use mathlib.Core.Option.{Option, some, none as nothing}
-use mathlib.Core.Bool.{Bool, true, false}
 use Rattle.calculus.specs.Types.{World, site, bound, Sheet}
-use Rattle.calculus.specs.Terms.{Target, outer, kept, Term, val, Value, lit, var, lab, lam, app, boxed, unbox, here, letd, get, pairing, fst, snd, letcc, throw, go, gauge, gate, below, number, function, code, address, pair}
+use Rattle.calculus.specs.Terms.{Target, outer, kept, Term, val, Value, lit, var, lab, lam, app, boxed, unbox, here, letd, get, pairing, fst, snd, letcc, throw, go, gauge, gate, below, number, function, code, address, pair, value, label, world}
+use Rattle.calculus.specs.Substitution.{substitute}
 use Rattle.calculus.specs.Tables.{entry, count, put}
 use Rattle.calculus.specs.Network.{Frame, to-apply, applied, unboxing, publishing, opening, to-pair, paired, first, second, to-compare, compared, setting, Continuation, finish, abort, return, push, Phase, eval, back, Sites, Network, network, keep}
-use Rattle.calculus.specs.Step.{Works, Instrument, Event, quiet, looked, was-read, was-set, Outcome, stepped, silent, stuck, stand-at, gauge-shows, gate-set, looked-up, resume, thrown, eval-step, apply-step, unbox-step, letd-step, half-step, less-step, compare-step, gate-step, frame-step, back-step, step}
+use Rattle.calculus.specs.Step.{Works, Instrument, Event, quiet, looked, was-read, was-set, Outcome, stepped, silent, stuck, when-number, when-function, when-code, when-address, when-pair, stand-at, next, looked-up, gauge-shows, gate-set, resume, thrown, eval-step, frame-step, back-step, step}
 use Rattle.calculus.specs.NetworkTyping.{Agrees}
 use Rattle.calculus.specs.Law.{NeedsSilent, to-read, to-set}
 use Rattle.calculus.proofs.Tables.{count-put}
@@ -18,7 +22,7 @@ abbrev pub Effect : Works → Event → Works → Type 0
 Effect v quiet u = u ≡ v
 Effect v (looked s l w) u = u ≡ v
 Effect v (was-read s g w) u = u ≡ v
-Effect v (was-set s g x w) u = (u ≡ record { gauges = v .gauges; gates = put (v .gates) s g (some x) }) × ((y : Option ℕ) × (entry (v .gates) s g ≡ some y))
+Effect v (was-set s g x w) u = (u ≡ record { gauges = v .gauges; gates = put (v .gates) s g (Some x) }) × ((y : Shows ℕ) × (entry (v .gates) s g ≡ some y))
 
 -- what is said of an outcome of a step from N
 abbrev Told : Works → Network → Outcome → Type 0
@@ -31,27 +35,27 @@ module _ (v : Works) (H : Sites) (w : ℕ) where
   stand-told N (site s) f g = g s
   stand-told N (bound k) f g = tt
 
-  label-told : (N : Network) (k : Continuation) (s l : ℕ) (o : Option Value) → Told v N (looked-up H w k v s l o)
+  label-told : (N : Network) (k : Continuation) (s l : ℕ) (o : Option Value) → Told v N (looked-up v H w k s l o)
   label-told N k s l nothing = tt
   label-told N k s l (some u) = refl
 
-  resume-told : (N : Network) (s : ℕ) (p : Phase) (o : Option Continuation) → Told v N (resume H v s p o)
+  resume-told : (N : Network) (s : ℕ) (p : Phase) (o : Option Continuation) → Told v N (resume v H w s p o)
   resume-told N s p nothing = tt
   resume-told N s p (some k) = refl
 
-  throw-told : (N : Network) (t : Target) (m : Term) → Told v N (thrown H v t m)
+  throw-told : (N : Network) (t : Target) (m : Term) → Told v N (thrown v H w t m)
   throw-told N (outer k) m = tt
   throw-told N (kept s c) m = resume-told N s (eval m) (entry (H .kept) s c)
 
-  gauge-told : (k : Continuation) (n : ℕ) (o : Option (Option ℕ)) → entry (v .gauges) w n ≡ o → Told v (network H w k (eval (gauge n))) (gauge-shows H w k v n o)
+  gauge-told : (k : Continuation) (n : ℕ) (o : Option (Shows ℕ)) → entry (v .gauges) w n ≡ o → Told v (network H w k (eval (gauge n))) (gauge-shows v H w k n o)
   gauge-told k n nothing e = tt
-  gauge-told k n (some nothing) e = to-read e
-  gauge-told k n (some (some x)) e = refl
+  gauge-told k n (some None) e = to-read e
+  gauge-told k n (some (Some x)) e = refl
 
-  gate-told : (k : Continuation) (g x : ℕ) (o : Option (Option ℕ)) → entry (v .gates) w g ≡ o → Told v (network H w (push (setting g) k) (back (number x))) (gate-set H w k v g x o)
+  gate-told : (k : Continuation) (g x : ℕ) (o : Option (Shows ℕ)) → entry (v .gates) w g ≡ o → Told v (network H w (push (setting g) k) (back (number x))) (gate-set v H w k g x o)
   gate-told k g x nothing e = tt
-  gate-told k g x (some nothing) e = to-set e
-  gate-told k g x (some (some y)) e = (refl, (some y, e))
+  gate-told k g x (some None) e = to-set e
+  gate-told k g x (some (Some y)) e = (refl, (Some y, e))
 
   eval-told : (k : Continuation) (m : Term) → Told v (network H w k (eval m)) (eval-step v H w k m)
   eval-told k (val u) = refl
@@ -75,67 +79,64 @@ module _ (v : Works) (H : Sites) (w : ℕ) where
   eval-told k (gate n m) = refl
   eval-told k (below T m n p q) = refl
 
-  apply-told : (N : Network) (k : Continuation) (f u : Value) → Told v N (apply-step v H w k f u)
-  apply-told N k (number n) u = tt
-  apply-told N k (function Z m) u = refl
-  apply-told N k (code m) u = tt
-  apply-told N k (address s l) u = tt
-  apply-told N k (pair b c) u = tt
+  number-told : (N : Network) (u : Value) (f : ℕ → Outcome) → ((n : ℕ) → Told v N (f n)) → Told v N (when-number u f)
+  number-told N (number n) f g = g n
+  number-told N (function T m) f g = tt
+  number-told N (code m) f g = tt
+  number-told N (address s l) f g = tt
+  number-told N (pair a b) f g = tt
 
-  unbox-told : (N : Network) (k : Continuation) (u : Value) → Told v N (unbox-step v H w k u)
-  unbox-told N k (number n) = tt
-  unbox-told N k (function Z m) = tt
-  unbox-told N k (code m) = refl
-  unbox-told N k (address s l) = tt
-  unbox-told N k (pair b c) = tt
+  function-told : (N : Network) (u : Value) (f : Term → Outcome) → ((m : Term) → Told v N (f m)) → Told v N (when-function u f)
+  function-told N (number n) f g = tt
+  function-told N (function T m) f g = g m
+  function-told N (code m) f g = tt
+  function-told N (address s l) f g = tt
+  function-told N (pair a b) f g = tt
 
-  letd-told : (N : Network) (k : Continuation) (n : Term) (u : Value) → Told v N (letd-step v H w k n u)
-  letd-told N k n (number j) = tt
-  letd-told N k n (function Z m) = tt
-  letd-told N k n (code m) = tt
-  letd-told N k n (address s l) = refl
-  letd-told N k n (pair b c) = tt
+  code-told : (N : Network) (u : Value) (f : Term → Outcome) → ((m : Term) → Told v N (f m)) → Told v N (when-code u f)
+  code-told N (number n) f g = tt
+  code-told N (function T m) f g = tt
+  code-told N (code m) f g = g m
+  code-told N (address s l) f g = tt
+  code-told N (pair a b) f g = tt
 
-  half-told : (N : Network) (k : Continuation) (f : Bool) (u : Value) → Told v N (half-step v H w k f u)
-  half-told N k f (number j) = tt
-  half-told N k f (function Z m) = tt
-  half-told N k f (code m) = tt
-  half-told N k f (address s l) = tt
-  half-told N k f (pair b c) = refl
+  address-told : (N : Network) (u : Value) (f : ℕ → ℕ → Outcome) → ((s l : ℕ) → Told v N (f s l)) → Told v N (when-address u f)
+  address-told N (number n) f g = tt
+  address-told N (function T m) f g = tt
+  address-told N (code m) f g = tt
+  address-told N (address s l) f g = g s l
+  address-told N (pair a b) f g = tt
 
-  less-told : (N : Network) (k : Continuation) (n : ℕ) (p q : Term) (u : Value) → Told v N (less-step v H w k n p q u)
-  less-told N k n p q (number j) = refl
-  less-told N k n p q (function Z m) = tt
-  less-told N k n p q (code m) = tt
-  less-told N k n p q (address s l) = tt
-  less-told N k n p q (pair b c) = tt
+  pair-told : (N : Network) (u : Value) (f : Value → Value → Outcome) → ((a b : Value) → Told v N (f a b)) → Told v N (when-pair u f)
+  pair-told N (number n) f g = tt
+  pair-told N (function T m) f g = tt
+  pair-told N (code m) f g = tt
+  pair-told N (address s l) f g = tt
+  pair-told N (pair a b) f g = g a b
 
-  compare-told : (N : Network) (k : Continuation) (f : Value) (p q : Term) (u : Value) → Told v N (compare-step v H w k f p q u)
-  compare-told N k (number n) p q u = less-told N k n p q u
-  compare-told N k (function Z m) p q u = tt
-  compare-told N k (code m) p q u = tt
-  compare-told N k (address s l) p q u = tt
-  compare-told N k (pair b c) p q u = tt
-
-  set-told : (k : Continuation) (g : ℕ) (u : Value) → Told v (network H w (push (setting g) k) (back u)) (gate-step v H w k g u)
+  set-told : (k : Continuation) (g : ℕ) (u : Value) → Told v (network H w (push (setting g) k) (back u)) (frame-step v H w k u (setting g))
   set-told k g (number n) = gate-told k g n (entry (v .gates) w g) refl
-  set-told k g (function Z m) = tt
-  set-told k g (code m) = tt
+  set-told k g (function T n) = tt
+  set-told k g (code n) = tt
   set-told k g (address s l) = tt
-  set-told k g (pair b c) = tt
+  set-told k g (pair a b) = tt
 
   frame-told : (k : Continuation) (u : Value) (f : Frame) → Told v (network H w (push f k) (back u)) (frame-step v H w k u f)
   frame-told k u (to-apply n) = refl
-  frame-told k u (applied f) = apply-told (network H w (push (applied f) k) (back u)) k f u
-  frame-told k u unboxing = unbox-told (network H w (push unboxing k) (back u)) k u
+  frame-told k u (applied f) = function-told (network H w (push (applied f) k) (back u)) f (λ m. next v H w k (eval (substitute (value u) m))) (λ m. refl)
+  frame-told k u unboxing = code-told (network H w (push unboxing k) (back u)) u (λ m. next v H w k (eval (substitute (world w) m))) (λ m. refl)
   frame-told k u publishing = refl
-  frame-told k u (opening n) = letd-told (network H w (push (opening n) k) (back u)) k n u
+  frame-told k u (opening n) =
+      address-told (network H w (push (opening n) k) (back u)) u (λ s l. next v H w k (eval (substitute (label s l) (substitute (world s) n)))) (λ s l. refl)
   frame-told k u (to-pair n) = refl
   frame-told k u (paired c) = refl
-  frame-told k u first = half-told (network H w (push first k) (back u)) k true u
-  frame-told k u second = half-told (network H w (push second k) (back u)) k false u
+  frame-told k u first = pair-told (network H w (push first k) (back u)) u (λ a b. next v H w k (back a)) (λ a b. refl)
+  frame-told k u second = pair-told (network H w (push second k) (back u)) u (λ a b. next v H w k (back b)) (λ a b. refl)
   frame-told k u (to-compare n p q) = refl
-  frame-told k u (compared c p q) = compare-told (network H w (push (compared c p q) k) (back u)) k c p q u
+  frame-told k u (compared c p q) =
+      let N = network H w (push (compared c p q) k) (back u) in
+      number-told N c (λ m. when-number u (λ n. next v H w k (eval (cond (ltb m n) p q))))
+      (λ m. number-told N u (λ n. next v H w k (eval (cond (ltb m n) p q))) (λ n. refl))
   frame-told k u (setting g) = set-told k g u
 
   back-told : (k : Continuation) (u : Value) → Told v (network H w k (back u)) (back-step v H w u k)
@@ -161,7 +162,7 @@ agrees-still S v quiet u q a = subst⁻¹ (Agrees S) q a
 agrees-still S v (looked s l w) u q a = subst⁻¹ (Agrees S) q a
 agrees-still S v (was-read s g w) u q a = subst⁻¹ (Agrees S) q a
 agrees-still S v (was-set s g x w) u q a =
-    subst⁻¹ (Agrees S) (q .0) (record { gauges = a .gauges; gates = λ r. count-put (v .gates) s g (some x) r ∙ a .gates r })
+    subst⁻¹ (Agrees S) (q .0) (record { gauges = a .gauges; gates = λ r. count-put (v .gates) s g (Some x) r ∙ a .gates r })
 
 pub agrees-after : (S : Sheet) (v : Works) (N : Network) (M : Network) (u : Works) (e : Event) → Agrees S v → step v N ≡ stepped M u e → Agrees S u
 agrees-after S v N M u e a q = agrees-still S v e u (effect v N M u e q) a

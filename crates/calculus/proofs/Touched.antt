@@ -44,6 +44,7 @@ among-marked r q qs = by (is-among q qs) refl
     again : (b : Bool) → same-register r q ≡ b → is-among q qs ≡ true → is-among r qs ≡ (is-among r qs || b)
     again false e h = or-comm false (is-among r qs)
     again true e h = let z : is-among r qs ≡ true = ap (λ (x : Register). is-among x qs) (register-same r q e) ∙ h in rw z refl
+
     by : (b : Bool) → is-among q qs ≡ b → is-among r (cond b qs (q ∷ qs)) ≡ (is-among r qs || same-register r q)
     by true e = again (same-register r q) refl e
     by false e = or-comm (same-register r q) (is-among r qs)

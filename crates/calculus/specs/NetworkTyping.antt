@@ -5,7 +5,6 @@ use mathlib.Core.Option.{some}
 use lib.ListN.{length}
 use Rattle.syntax.specs.declared.program.Mobile.{Mobile}
 use Rattle.calculus.specs.Types.{Ty, num, none, fn, box, at, both, site, bound, Sheet, gauges-of, gates-of}
-use Rattle.calculus.specs.Terms.{kept}
 use Rattle.calculus.specs.Tables.{entry, count, Match}
 use Rattle.calculus.specs.Typing.{Entries, closed, bind-value, bind-world, Carries, Has, HasValue}
 use Rattle.calculus.specs.Network.{Frame, to-apply, applied, unboxing, publishing, opening, to-pair, paired, first, second, to-compare, compared, setting, Continuation, finish, abort, return, push, Phase, eval, back, Sites, Network, network}

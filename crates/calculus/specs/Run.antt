@@ -7,14 +7,13 @@ use mathlib.Core.Option.{some, none as nothing}
 use lib.ListN.{length}
 use lib.Dec.{eqb}
 use Rattle.calculus.specs.Machine
-use Rattle.calculus.specs.Types.{Ty, site}
-use Rattle.calculus.specs.Terms.{kept}
+use Rattle.calculus.specs.Types.{Ty}
 use Rattle.calculus.specs.Tables.{Table, count}
 use Rattle.calculus.specs.Step.{Works, Instrument, a-gauge, a-gate, Event, quiet, looked, was-read, was-set}
 use Rattle.calculus.specs.Program.{Program, Ordered}
 use Rattle.calculus.specs.NetworkTyping.{Agrees}
 use Rattle.calculus.specs.Checker.{typed, check}
-use Rattle.calculus.specs.Limits.{lacks}
+use Rattle.calculus.specs.Limits.{room, lacks}
 
 -- Why a run ended. The first of these that holds is given.
 pub data Ending : Type 0 where
@@ -32,9 +31,11 @@ pub record Result : Type 0 where
   pub works : Works
   pub end : Machine.State
 
+-- a run that ends where it starts
 abbrev pub stop : Ending → Works → Machine.State → Result
 stop e v M = record { ending = e; steps = 0; events = []; works = v; end = M }
 
+-- one step before a run
 abbrev pub one-more : Event → Result → Result
 one-more e r = record { ending = r .ending; steps = suc (r .steps); events = e ∷ r .events; works = r .works; end = r .end }
 
@@ -127,6 +128,7 @@ abbrev pub total : {A : Type 0} → Table A → ℕ
 total [] = 0
 total (r ∷ t) = length r + total t
 
+-- the phase that is shown
 pub data Shown : Type 0 where
   evaluating : Shown
   returning : Shown
@@ -155,11 +157,11 @@ stand-of (Machine.state H w k p c) qs =
 
 -- No table holds more than it has places for.
 pub record Within (M : Machine.State) : Type 0 where
-  pub frames : Machine.places-of M .frames ≤ 4096
-  pub bindings : Machine.places-of M .bindings ≤ 4096
-  pub pairs : Machine.places-of M .pairs ≤ 2048
-  pub published : (s : ℕ) → count (Machine.sites-of M .published) s ≤ 128
-  pub kept : (s : ℕ) → count (Machine.sites-of M .kept) s ≤ 256
+  pub frames : Machine.places-of M .frames ≤ room .frames
+  pub bindings : Machine.places-of M .bindings ≤ room .bindings
+  pub pairs : Machine.places-of M .pairs ≤ room .pairs
+  pub published : (s : ℕ) → count (Machine.sites-of M .published) s ≤ room .published
+  pub kept : (s : ℕ) → count (Machine.sites-of M .kept) s ≤ room .kept
 
 -- A run from a state within the limits ends in one.
 abbrev pub StaysWithin : Type 0

@@ -1,6 +1,6 @@
 -- What is proved of the environment machine: its steps are those of the calculus.
 use mathlib.Core.Path.{_≡_}
-use mathlib.Core.Bool.{true}
+use mathlib.Core.Bool.{true, false}
 use mathlib.Core.Logic.{_⊎_}
 use Prim.Native.Nat.{ℕ}
 use mathlib.Core.List.{List}
@@ -31,11 +31,12 @@ abbrev pub StateTyped : Program → Ty → Machine.State → Type 0
 StateTyped P A M = (Σ : Entries) × NetworkTyped (setup P A) Σ (network-of P M)
 
 -- A started program of type A is in such a state, each step leads to one again, and in such a state the machine is done, or it
--- steps or meets a silent register.
+-- steps or meets a silent register: it is never stuck.
 pub record StatesTyped (P : Program) (A : Ty) : Type 0 where
   pub start : WellTyped P A → StateTyped P A (Machine.started P)
   pub step : (v u : Works) (M L : Machine.State) (e : Event) → StateTyped P A M → Machine.step P v M ≡ Machine.stepped L u e → StateTyped P A L
   pub moves : (v : Works) (M : Machine.State) → Agrees (P .sheet) v → StateTyped P A M → (Machine.is-done M ≡ true) ⊎ Machine.Moves (Machine.step P v M)
+  pub unstuck : (v : Works) (M : Machine.State) → Agrees (P .sheet) v → StateTyped P A M → Machine.is-done M ≡ false → Machine.step P v M ≡ Machine.stuck → ⊥
 
 abbrev pub StatesStand : Type 0
 StatesStand = (P : Program) (A : Ty) → Ordered P → StatesTyped P A
