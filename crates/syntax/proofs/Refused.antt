@@ -9,7 +9,7 @@ use lib.Dec.{eqb, ltb, leb}
 use lib.ListN.{length}
 use Rattle.std.proofs.shelf.Tests.{eqb-true, ltb-true, leb-true, and-parts, both-ways, cases-eq}
 use Rattle.std.proofs.shelf.Lists.{append-assoc, length-push}
-use Rattle.syntax.specs.Grammar.{Stop, Want, byte, words}
+use Rattle.syntax.specs.Grammar.{Stop, Want, byte}
 use Rattle.syntax.specs.Grammar.Want.{digits, item, word}
 use Rattle.syntax.specs.Reading.{Seen, Move, go, read, start-none, after as rests, digit, full, many, counted}
 use Rattle.syntax.specs.Reading.Move.{on, off}
@@ -45,6 +45,27 @@ onward {before} r c g =
     let e : shown (f .0) ≡ before ++ c ∷ g .1 .0 = f .1 ∙ ap (λ (x : List ℕ). before ++ x) (g .1 .1) in
     record { text = f .0; more = g .1 .0; alive = e; along = way r (f .0) (c ∷ g .1 .0) e }
 
+-- a limit's refusal stands where a text goes on
+module _ (before : List ℕ) (c : ℕ) (s : Seen) where
+  abbrev Onwards : List Want → Move → Type 0
+  Onwards ws (on vs q) = Unit {0}
+  Onwards ws (off n p) = (n ≡ 11 → ⊥) → Onward before ws s c
+
+  pub goes-on : {ws : List Want} {m : Move} → Stepped s (length before) c ws m → Reach before ws s → Onwards ws m
+  goes-on wrong r = λ z. absurd (z refl)
+  goes-on (stopped e) r = tt
+  goes-on (zeroed e) r = tt
+  goes-on (digited e n) r = tt
+  goes-on (numbered e) r = tt
+  goes-on (longer e l n) r = tt
+  goes-on (passes {k} {j} {v} {a} {ws} e l n) r = λ z. let u = plain-text ws (held r .fine .1) in onward r c (rest k j v a (c ∷ []) (e, tt) l u, (byte a ∷ shown u, refl))
+  goes-on (deeper {o} {ws} x l e f g) r = λ z. onward r c (item-goes o ws c x l (held r .fine) e)
+  goes-on (fuller {o} {ws} x l e f) r = λ z. onward r c (item-goes o ws c x l (held r .fine) e)
+  goes-on (started x l e f) r = tt
+  goes-on (whole f l e) r = tt
+  goes-on (letter b w f l e g) r = tt
+  goes-on (crowded {o} {ks} {ws} b w f l e g) r = λ z. onward r c (word-goes o ks ws c b w f l (held r .fine) e)
+
 -- the text has such a thing where something of the sort is wanted
 nth-item : (x : New) (o : Sort) (n : ℕ) (before : List ℕ) (ws : List Want) (s : Seen) (t : Whole) (l : List ℕ) (w : Way before (item o ∷ ws) s t l) → new-item x o ≡ true → length (w .past x) ≡ n → Nth x n t (length before)
 nth-item x o n before ws s t l w e h =
@@ -57,33 +78,28 @@ module _ (before after : List ℕ) (c : ℕ) (s : Seen) where
   abbrev stands : (ws : List Want) (o : Onward before ws s c) → Stands all (length before) (c ∷ [])
   stands ws o = record { before = before; after = after; split = refl; place = refl; text = o .text; more = o .more; alive = o .alive }
 
-  deep-holds : (o : Sort) (ws : List Want) (x : List ℕ × Form) (l : List (List ℕ × Form)) → Reach before (item o ∷ ws) s → rests c (words o) ≡ x ∷ l → c ≡ 40 → 64 ≤ s .depth → Holds all 12 (length before)
-  deep-holds o ws x l r e q d =
+  deep-holds : (o : Sort) (ws : List Want) → Reach before (item o ∷ ws) s → Onward before (item o ∷ ws) s c → c ≡ 40 → 64 ≤ s .depth → Holds all 12 (length before)
+  deep-holds o ws r n q d =
       let v = held r in
-      let n = onward r c (item-goes o ws c x l (v .fine) e) in
       too-deep (record { before = before; after = after; split = ap (λ (y : ℕ). before ++ y ∷ after) q; place = refl; text = n .text; more = n .more;
         alive = n .alive ∙ ap (λ (y : ℕ). before ++ y ∷ n .more) q }, omega (arith, v .count, v .depth, d))
 
-  full-holds : (o : Sort) (ws : List Want) (x : List ℕ × Form) (l : List (List ℕ × Form)) → Reach before (item o ∷ ws) s → rests c (words o) ≡ x ∷ l → full o s ≡ true → Holds all 13 (length before)
-  full-holds Types ws x l r e f =
-      let n = onward r c (item-goes Types ws c x l (held r .fine) e) in
+  full-holds : (o : Sort) (ws : List Want) → Onward before (item o ∷ ws) s c → full o s ≡ true → Holds all 13 (length before)
+  full-holds Types ws n f =
       let z = n .along .sizes in
       too-many (c, (stands (item Types ∷ ws) n, inr (nth-item new-type Types 512 before ws s (n .text) (c ∷ n .more) (n .along) refl (omega (arith, z .tys, z .few-tys, leb-true 512 (length (s .tys)) f)))))
-  full-holds Worlds ws x l r e f = absurd (both-ways false refl f)
-  full-holds Terms ws x l r e f =
-      let n = onward r c (item-goes Terms ws c x l (held r .fine) e) in
+  full-holds Worlds ws n f = absurd (both-ways false refl f)
+  full-holds Terms ws n f =
       let z = n .along .sizes in
       too-many (c, (stands (item Terms ∷ ws) n, inl (nth-item new-term Terms 1024 before ws s (n .text) (c ∷ n .more) (n .along) refl (omega (arith, z .tms, z .few-tms, leb-true 1024 (length (s .tms)) f)))))
-  full-holds First ws x l r e f = absurd (both-ways false refl f)
-  full-holds Further ws x l r e f = absurd (both-ways false refl f)
+  full-holds First ws n f = absurd (both-ways false refl f)
+  full-holds Further ws n f = absurd (both-ways false refl f)
 
-  count-holds : (k : Bool) (j v : ℕ) (a : Stop) (ws : List Want) → Reach before (digits k j v a ∷ ws) s → digit c ≡ true → v * 10 + (c - 48) < 65536 → counted k (v * 10 + (c - 48)) ≡ true → Holds all 14 j
-  count-holds k j v a ws r d l e =
+  count-holds : (k : Bool) (j v : ℕ) (a : Stop) (ws : List Want) → Reach before (digits k j v a ∷ ws) s → Onward before (digits k j v a ∷ ws) s c → digit c ≡ true → counted k (v * 10 + (c - 48)) ≡ true → Holds all 14 j
+  count-holds k j v a ws r n d e =
       let z = and-parts k (ltb 32 (v * 10 + (c - 48))) e in
       let h = halved r .0 in
       let g = more-tail before j v c h d in
-      let u = plain-text ws (held r .fine .1) in
-      let n = onward r c (rest k j v a (c ∷ []) (d, tt) l u, (byte a ∷ shown u, refl)) in
       let w = n .along in
       let y = w .count (z .0) in
       let i : ℕ = length before in
@@ -92,15 +108,13 @@ module _ (before after : List ℕ) (c : ℕ) (s : Seen) where
         (record { before = g .pre; after = after; split = at after; place = sym (g .place); text = n .text; more = n .more; alive = n .alive ∙ at (n .more) })
         (length (y .0)) (y .0, (places new-count (w .left) i, (w .all new-count ∙ ap (λ (x : List ℕ). x ++ places new-count (w .left) i) (y .1) ∙ append-assoc (y .0) (j ∷ []) (places new-count (w .left) i), refl))))
 
-  line-holds : (o : Sort) (ks : List (List ℕ × Form)) (ws : List Want) (b : ℕ) (v : List ℕ) (f : Form) (l : List (List ℕ × Form)) → Reach before (word o ks ∷ ws) s → rests c ks ≡ (b ∷ v, f) ∷ l → many o c s ≡ true → Holds all 14 (length before - 1)
-  line-holds Types ks ws b v f l r e m = absurd (both-ways false refl m)
-  line-holds Worlds ks ws b v f l r e m = absurd (both-ways false refl m)
-  line-holds Terms ks ws b v f l r e m = absurd (both-ways false refl m)
-  line-holds First ks ws b v f l r e m = absurd (both-ways false refl m)
-  line-holds Further ks ws b v f l r e m = by (n .along .lines .0)
+  line-holds : (o : Sort) (ks : List (List ℕ × Form)) (ws : List Want) (b : ℕ) (v : List ℕ) (f : Form) (l : List (List ℕ × Form)) → Onward before (word o ks ∷ ws) s c → rests c ks ≡ (b ∷ v, f) ∷ l → many o c s ≡ true → Holds all 14 (length before - 1)
+  line-holds Types ks ws b v f l n e m = absurd (both-ways false refl m)
+  line-holds Worlds ks ws b v f l n e m = absurd (both-ways false refl m)
+  line-holds Terms ks ws b v f l n e m = absurd (both-ways false refl m)
+  line-holds First ks ws b v f l n e m = absurd (both-ways false refl m)
+  line-holds Further ks ws b v f l n e m = by (n .along .lines .0)
     where
-      n : Onward before (word Further ks ∷ ws) s c
-      n = onward r c (word-goes Further ks ws c b v f l (held r .fine) e)
       z : (eqb c 115 ≡ true) × (leb 16 (length (s .stations)) ≡ true)
       z = and-parts (eqb c 115) (leb 16 (length (s .stations))) m
       no : rests c ks ≡ [] → ⊥
@@ -124,46 +138,25 @@ module _ (before after : List ℕ) (c : ℕ) (s : Seen) where
   Held (on vs q) = Unit {0}
   Held (off n p) = (n ≡ 11 → ⊥) → Holds all n p
 
-  step-holds : {ws : List Want} {m : Move} → Stepped s (length before) c ws m → Reach before ws s → Held m
-  step-holds wrong r = λ z. absurd (z refl)
-  step-holds (stopped e) r = tt
-  step-holds (zeroed e) r = tt
-  step-holds (digited e n) r = tt
-  step-holds (numbered e) r = tt
-  step-holds (longer e l n) r = tt
-  step-holds (passes {k} {j} {v} {a} {ws} e l n) r = λ z. count-holds k j v a ws r e l n
-  step-holds (deeper {o} {ws} x l e f g) r = λ z. deep-holds o ws x l r e f g
-  step-holds (fuller {o} {ws} x l e f) r = λ z. full-holds o ws x l r e f
-  step-holds (started x l e f) r = tt
-  step-holds (whole f l e) r = tt
-  step-holds (letter b w f l e g) r = tt
-  step-holds (crowded {o} {ks} {ws} b w f l e g) r = λ z. line-holds o ks ws b w f l r e g
-
--- a limit's refusal stands where a text goes on
-module _ (before : List ℕ) (c : ℕ) (s : Seen) where
-  abbrev Onwards : List Want → Move → Type 0
-  Onwards ws (on vs q) = Unit {0}
-  Onwards ws (off n p) = (n ≡ 11 → ⊥) → Onward before ws s c
-
-  pub goes-on : {ws : List Want} {m : Move} → Stepped s (length before) c ws m → Reach before ws s → Onwards ws m
-  goes-on wrong r = λ z. absurd (z refl)
-  goes-on (stopped e) r = tt
-  goes-on (zeroed e) r = tt
-  goes-on (digited e n) r = tt
-  goes-on (numbered e) r = tt
-  goes-on (longer e l n) r = tt
-  goes-on (passes {k} {j} {v} {a} {ws} e l n) r = λ z. let u = plain-text ws (held r .fine .1) in onward r c (rest k j v a (c ∷ []) (e, tt) l u, (byte a ∷ shown u, refl))
-  goes-on (deeper {o} {ws} x l e f g) r = λ z. onward r c (item-goes o ws c x l (held r .fine) e)
-  goes-on (fuller {o} {ws} x l e f) r = λ z. onward r c (item-goes o ws c x l (held r .fine) e)
-  goes-on (started x l e f) r = tt
-  goes-on (whole f l e) r = tt
-  goes-on (letter b w f l e g) r = tt
-  goes-on (crowded {o} {ks} {ws} b w f l e g) r = λ z. onward r c (word-goes o ks ws c b w f l (held r .fine) e)
+  step-holds : {ws : List Want} {m : Move} → Stepped s (length before) c ws m → Reach before ws s → Onwards before c s ws m → Held m
+  step-holds wrong r u = λ z. absurd (z refl)
+  step-holds (stopped e) r u = tt
+  step-holds (zeroed e) r u = tt
+  step-holds (digited e n) r u = tt
+  step-holds (numbered e) r u = tt
+  step-holds (longer e l n) r u = tt
+  step-holds (passes {k} {j} {v} {a} {ws} e l n) r u = λ z. count-holds k j v a ws r (u z) e n
+  step-holds (deeper {o} {ws} x l e f g) r u = λ z. deep-holds o ws r (u z) f g
+  step-holds (fuller {o} {ws} x l e f) r u = λ z. full-holds o ws (u z) f
+  step-holds (started x l e f) r u = tt
+  step-holds (whole f l e) r u = tt
+  step-holds (letter b w f l e g) r u = tt
+  step-holds (crowded {o} {ks} {ws} b w f l e g) r u = λ z. line-holds o ks ws b w f l (u z) e g
 
 limit-holds : (bs : List ℕ) (n p : ℕ) → (n ≡ 11 → ⊥) → go bs (item First ∷ []) start-none 0 ≡ refused n p → Holds bs n p
 limit-holds bs n p z e =
     let h = halt bs n p z e in
-    subst (λ (x : List ℕ). Holds x n p) (sym (h .split)) (step-holds (h .before) (h .after) (h .c) (h .seen) (h .found) (h .reach) z)
+    subst (λ (x : List ℕ). Holds x n p) (sym (h .split)) (step-holds (h .before) (h .after) (h .c) (h .seen) (h .found) (h .reach) (goes-on (h .before) (h .c) (h .seen) (h .found) (h .reach)) z)
 
 wrong-holds : (bs : List ℕ) (p : ℕ) → go bs (item First ∷ []) start-none 0 ≡ refused 11 p → Wrong bs p
 wrong-holds bs p e =
