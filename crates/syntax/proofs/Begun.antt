@@ -18,8 +18,9 @@ use Rattle.syntax.specs.Grammar.Kind.{type, world, term}
 use Rattle.syntax.specs.Grammar.Made.{a-type, a-world, a-term, a-station, a-start}
 use Rattle.syntax.specs.Reading.{Seen, Move, after, begun, many, passed, push, at-depth, settled}
 use Rattle.syntax.specs.Reading.Move.{on, off}
-use Rattle.syntax.specs.Texts.{In, new-item, noted}
-use Rattle.syntax.specs.Texts.New.{new-line}
+use Rattle.syntax.specs.Texts.{In}
+use Rattle.syntax.specs.Refusals.{new-item, noted}
+use Rattle.syntax.specs.Refusals.New.{new-line}
 use Rattle.syntax.specs.declared.grammar.Form.{Form}
 use Rattle.syntax.specs.declared.grammar.Form.the-variants.{TNum, TNone, TFn, TBox, TAt, TBoth, Site, Bound, Num, Val, Lam, App, Boxed, Unbox, Here, Letd, Getb, Getd, Getn, Pair, Fst, Snd, Letcc, Throw, Go, Gauge, Gate, Below, Station, Run}
 use Rattle.syntax.specs.declared.grammar.Sort.{Sort}

@@ -3,7 +3,7 @@ use mathlib.Core.Path.{_≡_, refl, sym, ap, _∙_, subst}
 use mathlib.Core.List.{List, [], _∷_, _++_}
 use mathlib.Core.Bool.{Bool, true, false, cond}
 use mathlib.Core.Logic.{inl, inr, ⊎-elim}
-use Prim.Native.Nat.{ℕ, _+_, _*_, _-_, _<_, _≤_}
+use Prim.Native.Nat.{ℕ, _+_, _*_, _-_, _^_, _<_, _≤_}
 use native.Mathlib.Omega.{arith}
 use lib.Dec.{eqb, ltb, leb}
 use lib.ListN.{length}
@@ -14,10 +14,16 @@ use Rattle.syntax.specs.Grammar.Want.{digits, item, word}
 use Rattle.syntax.specs.Reading.{Seen, Move, go, read, start-none, after as rests, digit, full, many, counted}
 use Rattle.syntax.specs.Reading.Move.{on, off}
 use Rattle.syntax.specs.Reading.Outcome.{refused}
-use Rattle.syntax.specs.Texts.{shown, New, new-item, noted, places}
-use Rattle.syntax.specs.Texts.Text.{rest}
-use Rattle.syntax.specs.Texts.New.{new-line, new-count, new-term, new-type}
-use Rattle.syntax.specs.Refusals.{Whole, Wrong, Stands, Nth, Holds}
+use Rattle.syntax.proofs.Texts.{Text, shown, places, Whole, Nth-in}
+use Rattle.syntax.proofs.Same.{Told, told, nth-told}
+use Rattle.syntax.proofs.Numbers.{own}
+use Rattle.syntax.proofs.Spelled.{Spelt, spelt-out}
+use Rattle.std.specs.Written.{decimal}
+use Rattle.std.proofs.shelf.Decimals.{decimal-value}
+use Rattle.syntax.specs.Refusals.{New, new-item, noted}
+use Rattle.syntax.proofs.Texts.Text.{rest}
+use Rattle.syntax.specs.Refusals.New.{new-line, new-count, new-term, new-type}
+use Rattle.syntax.specs.Refusals.{Wrong, Stands, Nth, Holds}
 use Rattle.syntax.specs.Refusals.Sheeted.{a-line, a-count}
 use Rattle.syntax.specs.Refusals.Holds.{too-long, no-text, too-deep, too-many, too-wide}
 use Rattle.syntax.specs.declared.grammar.Form.{Form}
@@ -67,7 +73,7 @@ module _ (before : List ℕ) (c : ℕ) (s : Seen) where
   goes-on (crowded {o} {ks} {ws} b w f l e g) r = λ z. onward r c (word-goes o ks ws c b w f l (held r .fine) e)
 
 -- the text has such a thing where something of the sort is wanted
-nth-item : (x : New) (o : Sort) (n : ℕ) (before : List ℕ) (ws : List Want) (s : Seen) (t : Whole) (l : List ℕ) (w : Way before (item o ∷ ws) s t l) → new-item x o ≡ true → length (w .past x) ≡ n → Nth x n t (length before)
+nth-item : (x : New) (o : Sort) (n : ℕ) (before : List ℕ) (ws : List Want) (s : Seen) (t : Whole) (l : List ℕ) (w : Way before (item o ∷ ws) s t l) → new-item x o ≡ true → length (w .past x) ≡ n → Nth-in x n t (length before)
 nth-item x o n before ws s t l w e h =
     (w .past x, (beyond x (w .left) (length before), (w .all x ∙ ap (λ (y : List ℕ). w .past x ++ y) (places-first x (w .left) (length before) ∙ ap (λ (b : Bool). noted b (length before) (beyond x (w .left) (length before))) e), h)))
 
@@ -76,27 +82,27 @@ module _ (before after : List ℕ) (c : ℕ) (s : Seen) where
   all = before ++ c ∷ after
 
   abbrev stands : (ws : List Want) (o : Onward before ws s c) → Stands all (length before) (c ∷ [])
-  stands ws o = record { before = before; after = after; split = refl; place = refl; text = o .text; more = o .more; alive = o .alive }
+  stands ws o = record { before = before; after = after; split = refl; place = refl; some = told (o .text) .prog; right = told (o .text) .right; more = o .more; alive = told (o .text) .same ∙ o .alive }
 
   deep-holds : (o : Sort) (ws : List Want) → Reach before (item o ∷ ws) s → Onward before (item o ∷ ws) s c → c ≡ 40 → 64 ≤ s .depth → Holds all 12 (length before)
   deep-holds o ws r n q d =
       let v = held r in
-      too-deep (record { before = before; after = after; split = ap (λ (y : ℕ). before ++ y ∷ after) q; place = refl; text = n .text; more = n .more;
-        alive = n .alive ∙ ap (λ (y : ℕ). before ++ y ∷ n .more) q }, omega (arith, v .count, v .depth, d))
+      too-deep (record { before = before; after = after; split = ap (λ (y : ℕ). before ++ y ∷ after) q; place = refl; some = told (n .text) .prog; right = told (n .text) .right; more = n .more;
+        alive = told (n .text) .same ∙ n .alive ∙ ap (λ (y : ℕ). before ++ y ∷ n .more) q }, omega (arith, v .count, v .depth, d))
 
   full-holds : (o : Sort) (ws : List Want) → Onward before (item o ∷ ws) s c → full o s ≡ true → Holds all 13 (length before)
   full-holds Types ws n f =
       let z = n .along .sizes in
-      too-many (c, (stands (item Types ∷ ws) n, inr (nth-item new-type Types 512 before ws s (n .text) (c ∷ n .more) (n .along) refl (omega (arith, z .tys, z .few-tys, leb-true 512 (length (s .tys)) f)))))
+      too-many (c, (stands (item Types ∷ ws) n, inr (nth-told new-type 512 (n .text) (told (n .text) .prog) (length before) (told (n .text) .at new-type) (nth-item new-type Types 512 before ws s (n .text) (c ∷ n .more) (n .along) refl (omega (arith, z .tys, z .few-tys, leb-true 512 (length (s .tys)) f))))))
   full-holds Worlds ws n f = absurd (both-ways false refl f)
   full-holds Terms ws n f =
       let z = n .along .sizes in
-      too-many (c, (stands (item Terms ∷ ws) n, inl (nth-item new-term Terms 1024 before ws s (n .text) (c ∷ n .more) (n .along) refl (omega (arith, z .tms, z .few-tms, leb-true 1024 (length (s .tms)) f)))))
+      too-many (c, (stands (item Terms ∷ ws) n, inl (nth-told new-term 1024 (n .text) (told (n .text) .prog) (length before) (told (n .text) .at new-term) (nth-item new-term Terms 1024 before ws s (n .text) (c ∷ n .more) (n .along) refl (omega (arith, z .tms, z .few-tms, leb-true 1024 (length (s .tms)) f))))))
   full-holds First ws n f = absurd (both-ways false refl f)
   full-holds Further ws n f = absurd (both-ways false refl f)
 
-  count-holds : (k : Bool) (j v : ℕ) (a : Stop) (ws : List Want) → Reach before (digits k j v a ∷ ws) s → Onward before (digits k j v a ∷ ws) s c → digit c ≡ true → counted k (v * 10 + (c - 48)) ≡ true → Holds all 14 j
-  count-holds k j v a ws r n d e =
+  count-holds : (k : Bool) (j v : ℕ) (a : Stop) (ws : List Want) → Reach before (digits k j v a ∷ ws) s → Onward before (digits k j v a ∷ ws) s c → digit c ≡ true → v * 10 + (c - 48) < 65536 → counted k (v * 10 + (c - 48)) ≡ true → Holds all 14 j
+  count-holds k j v a ws r n d l e =
       let z = and-parts k (ltb 32 (v * 10 + (c - 48))) e in
       let h = halved r .0 in
       let g = more-tail before j v c h d in
@@ -104,9 +110,14 @@ module _ (before after : List ℕ) (c : ℕ) (s : Seen) where
       let y = w .count (z .0) in
       let i : ℕ = length before in
       let at : (x : List ℕ) → before ++ c ∷ x ≡ g .pre ++ (g .ds ++ x) = λ x. sym (append-assoc before (c ∷ []) x) ∙ ap (λ (b : List ℕ). b ++ x) (g .is) ∙ append-assoc (g .pre) (g .ds) x in
-      too-wide (a-count (g .ds) (g .all) (subst (λ (x : ℕ). 32 < x) (sym (g .value)) (ltb-true 32 (v * 10 + (c - 48)) (z .1)))
-        (record { before = g .pre; after = after; split = at after; place = sym (g .place); text = n .text; more = n .more; alive = n .alive ∙ at (n .more) })
-        (length (y .0)) (y .0, (places new-count (w .left) i, (w .all new-count ∙ ap (λ (x : List ℕ). x ++ places new-count (w .left) i) (y .1) ∙ append-assoc (y .0) (j ∷ []) (places new-count (w .left) i), refl))))
+      let m : ℕ = v * 10 + (c - 48) in
+      let d-is : decimal (v * 10 + (c - 48)) ≡ g .ds =
+        subst (λ (x : ℕ). decimal x ≡ g .ds) (g .value) (decimal-value own (g .ds) (g .all) (g .some) (λ q. absurd (g .lead q)) (subst (λ (x : ℕ). x < 2 ^ 64) (sym (g .value)) (let b : v * 10 + (c - 48) < 2 ^ 64 = omega arith in b))) in
+      let by : (x : List ℕ) → before ++ c ∷ x ≡ g .pre ++ (decimal (v * 10 + (c - 48)) ++ x) = λ x. at x ∙ ap (λ (ds : List ℕ). g .pre ++ (ds ++ x)) (sym d-is) in
+      too-wide (a-count (v * 10 + (c - 48)) (ltb-true 32 (v * 10 + (c - 48)) (z .1)) l
+        (record { before = g .pre; after = after; split = by after; place = sym (g .place); some = told (n .text) .prog; right = told (n .text) .right; more = n .more; alive = told (n .text) .same ∙ n .alive ∙ by (n .more) })
+        (length (y .0)) (nth-told new-count (length (y .0)) (n .text) (told (n .text) .prog) j (told (n .text) .at new-count)
+          (y .0, (places new-count (w .left) i, (w .all new-count ∙ ap (λ (x : List ℕ). x ++ places new-count (w .left) i) (y .1) ∙ append-assoc (y .0) (j ∷ []) (places new-count (w .left) i), refl)))))
 
   line-holds : (o : Sort) (ks : List (List ℕ × Form)) (ws : List Want) (b : ℕ) (v : List ℕ) (f : Form) (l : List (List ℕ × Form)) → Onward before (word o ks ∷ ws) s c → rests c ks ≡ (b ∷ v, f) ∷ l → many o c s ≡ true → Holds all 14 (length before - 1)
   line-holds Types ks ws b v f l n e m = absurd (both-ways false refl m)
@@ -128,9 +139,9 @@ module _ (before after : List ℕ) (c : ℕ) (s : Seen) where
           let at : (i : List ℕ) → before ++ c ∷ i ≡ pre ++ (40 ∷ 115 ∷ i) = λ i. ap (λ (j : List ℕ). j ++ c ∷ i) x ∙ append-assoc pre (40 ∷ []) (c ∷ i) ∙ ap (λ (j : ℕ). pre ++ 40 ∷ j ∷ i) c-is in
           let p-is : length pre ≡ length before - 1 = omega arith in
           subst (λ (i : ℕ). Holds all 14 i) p-is
-            (too-wide (a-line (record { before = pre; after = after; split = at after; place = refl; text = n .text; more = n .more; alive = n .alive ∙ at (n .more) })
-              (k, (places new-line (w .left) (length before), (w .all new-line ∙ ap (λ (i : List ℕ). i ++ places new-line (w .left) (length before)) y ∙ append-assoc k (length pre ∷ []) (places new-line (w .left) (length before)),
-                omega (arith, k-len, w .lines .1, leb-true 16 (length (s .stations)) (z .1), g))))))
+            (too-wide (a-line (record { before = pre; after = after; split = at after; place = refl; some = told (n .text) .prog; right = told (n .text) .right; more = n .more; alive = told (n .text) .same ∙ n .alive ∙ at (n .more) })
+              (nth-told new-line 16 (n .text) (told (n .text) .prog) (length pre) (told (n .text) .at new-line) (k, (places new-line (w .left) (length before), (w .all new-line ∙ ap (λ (i : List ℕ). i ++ places new-line (w .left) (length before)) y ∙ append-assoc k (length pre ∷ []) (places new-line (w .left) (length before)),
+                omega (arith, k-len, w .lines .1, leb-true 16 (length (s .stations)) (z .1), g)))))))
       by (station x y g) = absurd (⊎-elim no (λ (h : eqb c 115 ≡ false). both-ways (eqb c 115) h (z .0)) (nos-after c ks y .1))
       by (run x y) = absurd (⊎-elim no (λ (h : eqb c 115 ≡ false). both-ways (eqb c 115) h (z .0)) (nos-after c ks y .1))
 
@@ -145,7 +156,7 @@ module _ (before after : List ℕ) (c : ℕ) (s : Seen) where
   step-holds (digited e n) r u = tt
   step-holds (numbered e) r u = tt
   step-holds (longer e l n) r u = tt
-  step-holds (passes {k} {j} {v} {a} {ws} e l n) r u = λ z. count-holds k j v a ws r (u z) e n
+  step-holds (passes {k} {j} {v} {a} {ws} e l n) r u = λ z. count-holds k j v a ws r (u z) e l n
   step-holds (deeper {o} {ws} x l e f g) r u = λ z. deep-holds o ws r (u z) f g
   step-holds (fuller {o} {ws} x l e f) r u = λ z. full-holds o ws (u z) f
   step-holds (started x l e f) r u = tt
@@ -161,7 +172,10 @@ limit-holds bs n p z e =
 wrong-holds : (bs : List ℕ) (p : ℕ) → go bs (item First ∷ []) start-none 0 ≡ refused 11 p → Wrong bs p
 wrong-holds bs p e =
     let h = refused-at bs (item First ∷ []) start-none 0 p tt e in
-    record { before = h .before; after = h .after; split = h .split; place = omega (arith, h .place); text = h .text; more = h .more; alive = h .alive; dead = h .dead; short = h .short }
+    let g = told (h .text) in
+    record { before = h .before; after = h .after; split = h .split; place = omega (arith, h .place); some = g .prog; right = g .right; more = h .more; alive = g .same ∙ h .alive;
+      dead = λ d x y k q r l. let s = spelt-out q r in h .dead d x y k (s .text) (s .is ∙ l);
+      short = λ k q r l. let s = spelt-out q r in h .short k (s .text) (s .is ∙ l) }
 
 pub go-holds : (bs : List ℕ) (n p : ℕ) → go bs (item First ∷ []) start-none 0 ≡ refused n p → Holds bs n p
 go-holds bs n p e = ⊎-elim

@@ -5,9 +5,8 @@ use Prim.Native.Nat.{ℕ, _+_, _≤_}
 use lib.ListN.{length}
 use Rattle.syntax.specs.Reading.{Seen, read}
 use Rattle.syntax.specs.Reading.Outcome.{done, refused}
-use Rattle.syntax.specs.Texts.{shown, New}
 use Rattle.syntax.specs.Trees.{Prog, Right, Limits, print, table, tables, Each, deep, terms, types}
-use Rattle.syntax.specs.Refusals.{Whole, Nth, Holds, Given}
+use Rattle.syntax.specs.Refusals.{New, Nth, Holds, Given}
 use Rattle.syntax.specs.Sound.{Sound, Low}
 
 -- A text is refused by n at p exactly if that refusal holds of it and comes before all others that hold.
@@ -18,13 +17,9 @@ Refused-exactly = (bs : List ℕ) (n p : ℕ) → (read bs ≡ refused n p → G
 abbrev pub Accepted-exactly : Type 0
 Accepted-exactly = (bs : List ℕ) → ((s : Seen) → read bs ≡ done s → (n p : ℕ) → Holds bs n p → ⊥) × (((n p : ℕ) → Holds bs n p → ⊥) → (s : Seen) × (read bs ≡ done s))
 
--- The texts of the grammar are the texts of the programs.
-abbrev pub One-grammar : Type 0
-One-grammar = ((t : Whole) → (p : Prog) × (Right p × (print p ≡ shown t))) × ((p : Prog) → Right p → (t : Whole) × (shown t ≡ print p))
-
--- What begins at a place of a text, and how many began before it, depends on the bytes before that place alone.
+-- What begins at a place of a program's text, and how many began before it, depends on the bytes before that place alone.
 abbrev pub One-count : Type 0
-One-count = (x : New) (n : ℕ) (t u : Whole) (before a b : List ℕ) → shown t ≡ before ++ a → shown u ≡ before ++ b → Nth x n t (length before) → Nth x n u (length before)
+One-count = (x : New) (n : ℕ) (p q : Prog) (before a b : List ℕ) → Right p → Right q → print p ≡ before ++ a → print q ≡ before ++ b → Nth x n p (length before) → Nth x n q (length before)
 
 -- bs is the text of the program p, which keeps the limits
 pub record Texts (bs : List ℕ) (p : Prog) : Type 0 where

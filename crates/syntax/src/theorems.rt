@@ -1,10 +1,9 @@
-ghost use Rattle.syntax.specs.Promises.{Refused-exactly, Accepted-exactly, One-grammar, One-count, Read-right, Read-all, Read-sound, Read-low, Read-one, Restored, Limit-right};
+ghost use Rattle.syntax.specs.Promises.{Refused-exactly, Accepted-exactly, One-count, Read-right, Read-all, Read-sound, Read-low, Read-one, Restored, Limit-right};
 
 // The theorems of reading.
 pub fn reading_stands() -> u8
     ensures refused { λ _. ⌜ Refused-exactly ⌝ }
     ensures unrefused { λ _. ⌜ Accepted-exactly ⌝ }
-    ensures grammar { λ _. ⌜ One-grammar ⌝ }
     ensures count { λ _. ⌜ One-count ⌝ }
     ensures right { λ _. ⌜ Read-right ⌝ }
     ensures all { λ _. ⌜ Read-all ⌝ }

@@ -1,4 +1,3 @@
-use Rattle.syntax.proofs.Spelled.{one-grammar}
 use Rattle.syntax.proofs.Exact.{read-right, read-all, read-one, restored, limit-right}
 use Rattle.syntax.proofs.Numbered.{read-sound}
 use Rattle.syntax.proofs.Heights.{read-low}
@@ -7,4 +6,4 @@ use Rattle.syntax.proofs.Order.{refused-exactly, accepted-exactly}
 use Rattle.syntax.proofs.theorems.reading_stands.Needs as need
 
 pub returns : need.returns
-returns c = record { refused = refused-exactly; unrefused = accepted-exactly; grammar = one-grammar; count = one-count; right = read-right; all = read-all; sound = read-sound; low = read-low; one = read-one; restored = restored; limit = limit-right }
+returns c = record { refused = refused-exactly; unrefused = accepted-exactly; count = one-count; right = read-right; all = read-all; sound = read-sound; low = read-low; one = read-one; restored = restored; limit = limit-right }
