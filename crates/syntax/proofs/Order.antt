@@ -8,7 +8,7 @@ use native.Mathlib.Omega.{arith}
 use lib.Dec.{eqb, ltb, leb}
 use lib.ListN.{length}
 use Rattle.std.proofs.shelf.Tests.{ltb-false, leb-true, le-leb, le-ltb, lt-ltb, and-parts, and-from, both-ways, cases-eq, cases-lt}
-use Rattle.std.proofs.shelf.Lists.{append-assoc, length-push, length-append, append-cancel-left}
+use Rattle.std.proofs.shelf.Lists.{append-assoc, length-push, length-append}
 use Rattle.syntax.specs.Grammar.{Stop, Want, byte, words}
 use Rattle.syntax.specs.Grammar.Want.{stop, number, digits, item, word}
 use Rattle.syntax.specs.Reading.{Seen, Outcome, go, read, start-none, after as rests, began, begun, digit, full}
@@ -16,12 +16,12 @@ use Rattle.syntax.specs.Reading.Move.{on, off}
 use Rattle.syntax.specs.Reading.Outcome.{done, refused}
 use Rattle.syntax.specs.Texts.{In, Digits, valued}
 use Rattle.syntax.proofs.Texts.{Text, shown, Whole, Nth-in}
-use Rattle.syntax.proofs.Same.{beyond-above, sorted, Told, told, nth-in}
-use Rattle.syntax.proofs.Spelled.{Spelt, spelt-out}
+use Rattle.syntax.proofs.Same.{beyond-above, sorted, told, nth-in}
+use Rattle.syntax.proofs.Spelled.{spelt-out}
 use Rattle.syntax.proofs.Numbers.{own}
 use Rattle.std.specs.Written.{decimal}
 use Rattle.std.proofs.shelf.Decimals.{digits-decimal, value-decimal}
-use Rattle.syntax.specs.Refusals.{New, new-item, new-number, noted}
+use Rattle.syntax.specs.Refusals.{New}
 use Rattle.syntax.specs.Texts.In.{here, there}
 use Rattle.syntax.proofs.Texts.Text.{end, past, nought, some, rest, pick, spell}
 use Rattle.syntax.specs.Refusals.New.{new-line, new-count, new-term, new-type}
@@ -40,7 +40,7 @@ use Rattle.syntax.proofs.Depths.{Inv, Clean, Neat, closers, not-open}
 use Rattle.syntax.proofs.Reach.{held, Comes, come, Halt, halt}
 use Rattle.syntax.proofs.Reach.Comes.{stops, comes}
 use Rattle.syntax.proofs.Begun.{both-lines, Lined}
-use Rattle.syntax.proofs.Ways.{Way, way, Below}
+use Rattle.syntax.proofs.Ways.{Way, way}
 
 here-wanted : (x : New) (n : ℕ) (before : List ℕ) (ws : List Want) (s : Seen) (t : Whole) (to-come : List ℕ) (w : Way before ws s t to-come) → Nth-in x n t (length before) → (mark x ws ≡ true) × (length (w .past x) ≡ n)
 here-wanted x n before ws s t to-come w h =

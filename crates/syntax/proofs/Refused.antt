@@ -14,16 +14,16 @@ use Rattle.syntax.specs.Grammar.Want.{digits, item, word}
 use Rattle.syntax.specs.Reading.{Seen, Move, go, read, start-none, after as rests, digit, full, many, counted}
 use Rattle.syntax.specs.Reading.Move.{on, off}
 use Rattle.syntax.specs.Reading.Outcome.{refused}
-use Rattle.syntax.proofs.Texts.{Text, shown, places, Whole, Nth-in}
-use Rattle.syntax.proofs.Same.{Told, told, nth-told}
+use Rattle.syntax.proofs.Texts.{shown, places, Whole, Nth-in}
+use Rattle.syntax.proofs.Same.{told, nth-told}
 use Rattle.syntax.proofs.Numbers.{own}
-use Rattle.syntax.proofs.Spelled.{Spelt, spelt-out}
+use Rattle.syntax.proofs.Spelled.{spelt-out}
 use Rattle.std.specs.Written.{decimal}
 use Rattle.std.proofs.shelf.Decimals.{decimal-value}
 use Rattle.syntax.specs.Refusals.{New, new-item, noted}
 use Rattle.syntax.proofs.Texts.Text.{rest}
 use Rattle.syntax.specs.Refusals.New.{new-line, new-count, new-term, new-type}
-use Rattle.syntax.specs.Refusals.{Wrong, Stands, Nth, Holds}
+use Rattle.syntax.specs.Refusals.{Wrong, Stands, Holds}
 use Rattle.syntax.specs.Refusals.Sheeted.{a-line, a-count}
 use Rattle.syntax.specs.Refusals.Holds.{too-long, no-text, too-deep, too-many, too-wide}
 use Rattle.syntax.specs.declared.grammar.Form.{Form}

@@ -16,11 +16,11 @@ use Rattle.syntax.proofs.Texts.Text.{end, past, nought, some, rest, pick, spel
 use Rattle.syntax.specs.Promises.{One-count}
 use Rattle.syntax.specs.Trees.{Prog, Right, print}
 use Rattle.syntax.specs.Refusals.{New, new-item, new-number, noted, begun-in, Nth}
-use mathlib.Core.Logic.{_⊎_, ⊎-elim}
+use mathlib.Core.Logic.{⊎-elim}
 use Rattle.std.proofs.shelf.Lists.{append-cancel-left, append-nil}
 use Rattle.syntax.proofs.Places.{Longer as Goes-beyond, splits, nothing}
 use Rattle.syntax.proofs.Gather.{gathered}
-use Rattle.syntax.proofs.Spelled.{Spelt, spelt-out}
+use Rattle.syntax.proofs.Spelled.{spelt-out}
 use Rattle.syntax.proofs.Theory.{Follows, takes, mark, beyond, places-first, no-digit}
 use Rattle.syntax.proofs.Alive.{empty-full, empty-many}
 use Rattle.syntax.proofs.Reach.{Stepped, step-is}
