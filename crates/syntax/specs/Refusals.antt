@@ -49,6 +49,7 @@ new-number new-count k = k
 new-number new-term k = false
 new-number new-type k = false
 
+-- A place more, if one begins there.
 abbrev pub noted : Bool → ℕ → List ℕ → List ℕ
 noted b i l = cond b (i ∷ l) l
 

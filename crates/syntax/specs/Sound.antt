@@ -1,4 +1,4 @@
--- What holds of every table that is read: its numbers lead to rows that are there, and a part's number is larger than its whole's.
+-- Sound tables: their numbers lead to rows that are there, a part's number is larger than its whole's, and nothing is high.
 use mathlib.Core.List.{List}
 use Prim.Native.Nat.{ℕ, zero, suc, _+_, _<_, _≤_}
 use lib.ListN.{length, getD}
@@ -67,6 +67,7 @@ Sizes-sound t =
     (0 < length (t .tms)) × (length (t .tms) ≤ 1024) × (length (t .tys) ≤ 512)
     × (0 < length (t .stations)) × (length (t .stations) ≤ 16) × Each (λ h. (h .gauges ≤ 32) × (h .gates ≤ 32)) (t .stations)
 
+-- What holds of every table that is read.
 abbrev pub Sound : Tables → Type 0
 Sound t = Types-sound t × Terms-sound t × Sizes-sound t × Small (t .start)
 
