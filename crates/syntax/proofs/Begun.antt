@@ -279,8 +279,6 @@ module _ (b L : List ℕ) (s : Seen) (c : ℕ) where
   on-word First ks ws x w f l p e g h = (first-of (Is Station) c ks (x ∷ w) f l (h .0) e, same ∙ h .1, h .2, h .3)
   on-word Further ks ws x w f l p e g h = (by (h .0), same ∙ h .1, h .2)
     where
-      v : List (List ℕ × Form)
-      v = (x ∷ w, f) ∷ l
       tells : (t : Bool) → eqb c 115 ≡ t → after c both-lines ≡ (x ∷ w, f) ∷ l → Choice (b ++ c ∷ []) (L ++ []) ((x ∷ w, f) ∷ l) (length (s .stations))
       tells true q r =
           let z = second-words c .0 q in

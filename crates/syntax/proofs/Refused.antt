@@ -110,7 +110,6 @@ module _ (before after : List ℕ) (c : ℕ) (s : Seen) where
       let y = w .count (z .0) in
       let i : ℕ = length before in
       let at : (x : List ℕ) → before ++ c ∷ x ≡ g .pre ++ (g .ds ++ x) = λ x. sym (append-assoc before (c ∷ []) x) ∙ ap (λ (b : List ℕ). b ++ x) (g .is) ∙ append-assoc (g .pre) (g .ds) x in
-      let m : ℕ = v * 10 + (c - 48) in
       let d-is : decimal (v * 10 + (c - 48)) ≡ g .ds =
         subst (λ (x : ℕ). decimal x ≡ g .ds) (g .value) (decimal-value own (g .ds) (g .all) (g .some) (λ q. absurd (g .lead q)) (subst (λ (x : ℕ). x < 2 ^ 64) (sym (g .value)) (let b : v * 10 + (c - 48) < 2 ^ 64 = omega arith in b))) in
       let by : (x : List ℕ) → before ++ c ∷ x ≡ g .pre ++ (decimal (v * 10 + (c - 48)) ++ x) = λ x. at x ∙ ap (λ (ds : List ℕ). g .pre ++ (ds ++ x)) (sym d-is) in

@@ -127,13 +127,10 @@ number-then f n r L x i =
 form-then : (f g : Form) (t r : Parts) (o : Sort) (L : New → ℕ → List ℕ) (x : New) (i : ℕ) → row g .sort ≡ o →
   noted (new-item x o) i (Within g t (λ y j. Then f r L y (j + 1)) x (i + length (spelling g))) ≡ Then f (form g t r) L x i
 form-then f g t r o L x i e =
-    let j : ℕ = i + length (spelling g) in
-    let b : Bool = new-item x (row g .sort) in
     let y : List ℕ = byte (stop-of f r) ∷ written f r [] in
     let a1 = length-append (spelling g) (inner-text g t []) in
     let a2 = length-append (spelling g) (inner-text g t y) in
     let a3 = inside-length g t y (written-length t g y) in
-    let k : ℕ = i + extent g t + 1 in
     let p : i + length (spelling g) + length (inner-text g t []) + 1 ≡ i + extent g t + 1 = omega (arith, a1) in
     let q : i + extent g t + 1 + length (written f r []) ≡ i + length (written f (form g t r) []) = omega (arith, a1, a2, a3) in
     ap (λ (s : Sort). noted (new-item x s) i (Within g t (λ y j. Then f r L y (j + 1)) x (i + length (spelling g)))) (sym e)
