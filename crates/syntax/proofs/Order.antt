@@ -31,7 +31,9 @@ use Rattle.syntax.specs.Refusals.Holds.{too-long, no-text, too-deep, too-many,
 use Rattle.syntax.specs.declared.grammar.Form.{Form}
 use Rattle.syntax.specs.declared.grammar.Sort.{Sort}
 use Rattle.syntax.specs.declared.grammar.Sort.the-variants.{Types, Worlds, Terms, First, Further}
-use Rattle.syntax.specs.Promises.{Refused-exactly, Accepted-exactly}
+use Rattle.syntax.specs.Promises.{Texts, whole, Refused-exactly, Accepted-exactly, Answered}
+use Rattle.syntax.specs.Trees.{Prog}
+use Rattle.syntax.proofs.Exact.{read-right}
 use Rattle.syntax.proofs.Steps.{go-cons, moved, number-some, digits-sheet, digits-on}
 use Rattle.syntax.proofs.Theory.{Follows, takes, mark, beyond, places-first, no-digit, valued-ge}
 use Rattle.syntax.proofs.Places.{Longer, splits, Place, not-done, one-place, refused-at, accepted}
@@ -374,3 +376,10 @@ accepted-exactly bs = (λ s e n p h. let a = answer bs n p h in let z : done s �
     by : ((n p : ℕ) → Holds bs n p → ⊥) → (o : Outcome) → read bs ≡ o → (s : Seen) × (read bs ≡ done s)
     by none (done s) e = (s, e)
     by none (refused n p) e = absurd (none n p (read-holds bs n p e))
+
+pub answered : Answered
+answered bs = by (read bs) refl
+  where
+    by : (o : Outcome) → read bs ≡ o → ((p : Prog) × (Texts bs p × (read bs ≡ done (whole p)))) ⊎ ((n : ℕ) × ((p : ℕ) × (Given bs n p × (read bs ≡ refused n p))))
+    by (done s) e = let a = read-right bs s e in inl (a .0, (a .1 .0, e ∙ ap done (a .1 .1)))
+    by (refused n p) e = inr (n, (p, (given bs n p e, e)))

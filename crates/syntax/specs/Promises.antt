@@ -1,6 +1,7 @@
 -- What is promised of every text: when it is read and to what, and when it is refused, by which number and at which place.
 use mathlib.Core.Path.{_≡_}
 use mathlib.Core.List.{List, [], _++_}
+use mathlib.Core.Logic.{_⊎_}
 use Prim.Native.Nat.{ℕ, _+_, _≤_}
 use lib.ListN.{length}
 use Rattle.syntax.specs.Reading.{Seen, read}
@@ -50,6 +51,10 @@ Refused-exactly = (bs : List ℕ) (n p : ℕ) → (read bs ≡ refused n p → G
 -- Bytes are read exactly if no refusal holds of them.
 abbrev pub Accepted-exactly : Type 0
 Accepted-exactly = (bs : List ℕ) → ((s : Seen) → read bs ≡ done s → (n p : ℕ) → Holds bs n p → ⊥) × (((n p : ℕ) → Holds bs n p → ⊥) → (s : Seen) × (read bs ≡ done s))
+
+-- All bytes are the text of a program that keeps the limits, and are read to it, or have a first refusal, and are refused by that.
+abbrev pub Answered : Type 0
+Answered = (bs : List ℕ) → ((p : Prog) × (Texts bs p × (read bs ≡ done (whole p)))) ⊎ ((n : ℕ) × ((p : ℕ) × (Given bs n p × (read bs ≡ refused n p))))
 
 -- What begins at a place of a program's text, and how many of them began before it, depends on the bytes before that place alone.
 abbrev pub One-count : Type 0

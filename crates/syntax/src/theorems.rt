@@ -1,4 +1,4 @@
-ghost use Rattle.syntax.specs.Promises.{Read-right, Read-all, Read-one, Restored, Read-sound, Read-low, Refused-exactly, Accepted-exactly, One-count, Limit-right};
+ghost use Rattle.syntax.specs.Promises.{Read-right, Read-all, Read-one, Restored, Read-sound, Read-low, Refused-exactly, Accepted-exactly, Answered, One-count, Limit-right};
 
 // The theorems of reading.
 pub fn reading_stands() -> u8
@@ -10,6 +10,7 @@ pub fn reading_stands() -> u8
     ensures low { λ _. ⌜ Read-low ⌝ }
     ensures refused { λ _. ⌜ Refused-exactly ⌝ }
     ensures accepted { λ _. ⌜ Accepted-exactly ⌝ }
+    ensures answered { λ _. ⌜ Answered ⌝ }
     ensures count { λ _. ⌜ One-count ⌝ }
     ensures limit { λ _. ⌜ Limit-right ⌝ }
 {
