@@ -79,12 +79,12 @@ term-map P Q f (Term·Below t a b c d) h = (f a (h .0), f b (h .1), f c (h .2), 
 
 module _ (tys : List Ty) (tms : List Term) where
   -- what is low is as low as more
-  ty-more : (k m n : ℕ) → k ≤ m → Ty-low tys k n → Ty-low tys m n
+  pub ty-more : (k m n : ℕ) → k ≤ m → Ty-low tys k n → Ty-low tys m n
   ty-more zero m n l h = absurd h
   ty-more (suc k) zero n l h = absurd (omega arith)
   ty-more (suc k) (suc m) n l h = ty-map (λ a. Ty-low tys k a) (λ a. Ty-low tys m a) (λ a g. ty-more k m a (omega arith) g) (getD tys n Ty·Num) h
 
-  term-more : (k m n : ℕ) → k ≤ m → Term-low tms k n → Term-low tms m n
+  pub term-more : (k m n : ℕ) → k ≤ m → Term-low tms k n → Term-low tms m n
   term-more zero m n l h = absurd h
   term-more (suc k) zero n l h = absurd (omega arith)
   term-more (suc k) (suc m) n l h = term-map (λ a. Term-low tms k a) (λ a. Term-low tms m a) (λ a g. term-more k m a (omega arith) g) (getD tms n (Term·Num 0)) h
