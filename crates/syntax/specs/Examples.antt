@@ -7,6 +7,7 @@ use lib.Chars.{codes}
 use Rattle.std.specs.Written.{digits}
 use Rattle.syntax.specs.Refusals.{begun-in}
 use Rattle.syntax.specs.Refusals.New.{new-line, new-count, new-term, new-type}
+use Rattle.syntax.specs.Sound.{sizes}
 use Rattle.syntax.specs.Trees.{Parts, Prog, print, table}
 use Rattle.syntax.specs.Trees.Parts.{none, number, form}
 use Rattle.syntax.specs.declared.grammar.Form.the-variants.{TNum, TBox, TAt, Site, Bound, Val, Lam, Letd, Getb, Getn, Gauge, Gate}
@@ -42,6 +43,10 @@ three-types = refl
 
 three-terms : table three .tms ≡ Term·Lam 0 1 ∷ Term·Letd 2 3 ∷ Term·Value 0 ∷ Term·Get Code (World·Bound 0) 4 ∷ Term·Value 0 ∷ []
 three-terms = refl
+
+-- How many terms there are in each.
+three-sizes : sizes 0 (table three .tms) ≡ 5 ∷ 4 ∷ 1 ∷ 2 ∷ 1 ∷ []
+three-sizes = refl
 
 -- Where things begin in the text of the first program.
 one-lines : begun-in new-line one ≡ 0 ∷ 14 ∷ 28 ∷ []

@@ -8,7 +8,7 @@ use Rattle.syntax.specs.Reading.{Seen, read}
 use Rattle.syntax.specs.Reading.Outcome.{done, refused}
 use Rattle.syntax.specs.Trees.{Prog, Right, Limits, print, table, tables, Each, deep, terms, types}
 use Rattle.syntax.specs.Refusals.{New, Nth, Holds, Given}
-use Rattle.syntax.specs.Sound.{Sound, Low}
+use Rattle.syntax.specs.Sound.{Sound, Low, size}
 
 -- The bytes are the text of the program p, which keeps the limits.
 pub record Texts (bs : List ℕ) (p : Prog) : Type 0 where
@@ -43,6 +43,10 @@ Read-sound = (bs : List ℕ) (s : Seen) → read bs ≡ done s → Sound (tables
 -- No type and no term that is read is more than 64 high.
 abbrev pub Read-low : Type 0
 Read-low = (bs : List ℕ) (s : Seen) → read bs ≡ done s → Low (tables s)
+
+-- The first term that is read has as many terms in it, with those of its parts, as the table has rows.
+abbrev pub Read-tree : Type 0
+Read-tree = (bs : List ℕ) (s : Seen) → read bs ≡ done s → size (s .tms) 0 ≡ length (s .tms)
 
 -- Bytes are refused by n at p exactly if that refusal holds of them and comes before all others that hold.
 abbrev pub Refused-exactly : Type 0
