@@ -9,7 +9,7 @@ use Rattle.syntax.specs.Grammar.{Want, words}
 use Rattle.syntax.specs.Grammar.Want.{item, word}
 use Rattle.syntax.specs.Reading.{Seen, start-none, after, began, spelled, full, begun, many}
 use Rattle.syntax.specs.Reading.Move.{on, off}
-use Rattle.syntax.specs.Texts.{Text, shown}
+use Rattle.syntax.proofs.Texts.{Text, shown}
 use Rattle.syntax.specs.declared.grammar.Form.{Form}
 use Rattle.syntax.specs.declared.grammar.Sort.{Sort}
 use Rattle.syntax.specs.declared.grammar.Sort.the-variants.{Types, Worlds, Terms, First, Further}

@@ -18,8 +18,9 @@ use Rattle.syntax.specs.Grammar.Kind.{type, world, term}
 use Rattle.syntax.specs.Grammar.Made.{a-type, a-world, a-term, a-station, a-start}
 use Rattle.syntax.specs.Reading.{Seen, Move, after, begun, many, passed, push, at-depth, settled}
 use Rattle.syntax.specs.Reading.Move.{on, off}
-use Rattle.syntax.specs.Texts.{In, new-item, noted}
-use Rattle.syntax.specs.Texts.New.{new-line}
+use Rattle.syntax.specs.Texts.{In}
+use Rattle.syntax.specs.Refusals.{new-item, noted}
+use Rattle.syntax.specs.Refusals.New.{new-line}
 use Rattle.syntax.specs.declared.grammar.Form.{Form}
 use Rattle.syntax.specs.declared.grammar.Form.the-variants.{TNum, TNone, TFn, TBox, TAt, TBoth, Site, Bound, Num, Val, Lam, App, Boxed, Unbox, Here, Letd, Getb, Getd, Getn, Pair, Fst, Snd, Letcc, Throw, Go, Gauge, Gate, Below, Station, Run}
 use Rattle.syntax.specs.declared.grammar.Sort.{Sort}
@@ -278,8 +279,6 @@ module _ (b L : List ℕ) (s : Seen) (c : ℕ) where
   on-word First ks ws x w f l p e g h = (first-of (Is Station) c ks (x ∷ w) f l (h .0) e, same ∙ h .1, h .2, h .3)
   on-word Further ks ws x w f l p e g h = (by (h .0), same ∙ h .1, h .2)
     where
-      v : List (List ℕ × Form)
-      v = (x ∷ w, f) ∷ l
       tells : (t : Bool) → eqb c 115 ≡ t → after c both-lines ≡ (x ∷ w, f) ∷ l → Choice (b ++ c ∷ []) (L ++ []) ((x ∷ w, f) ∷ l) (length (s .stations))
       tells true q r =
           let z = second-words c .0 q in

@@ -15,7 +15,7 @@ use Rattle.syntax.specs.Grammar.Want.{stop, number, digits, item, word}
 use Rattle.syntax.specs.Grammar.Part.{num, sub}
 use Rattle.syntax.specs.Reading.{Seen, Move, step, start-none, after, began, spelled, digit, full, begun, many, passed, push, counted, at-depth}
 use Rattle.syntax.specs.Reading.Move.{on, off}
-use Rattle.syntax.specs.Texts.{Text, shown}
+use Rattle.syntax.proofs.Texts.{Text, shown}
 use Rattle.syntax.specs.Refusals.{tally}
 use Rattle.syntax.specs.declared.grammar.Form.{Form}
 use Rattle.syntax.specs.declared.grammar.Form.the-variants.{TNum, TNone, TFn, TBox, TAt, TBoth, Site, Bound, Num, Val, Lam, App, Boxed, Unbox, Here, Letd, Getb, Getd, Getn, Pair, Fst, Snd, Letcc, Throw, Go, Gauge, Gate, Below, Station, Run}

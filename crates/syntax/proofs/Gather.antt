@@ -11,9 +11,10 @@ use Rattle.syntax.specs.Grammar.{Stop, Want, Part, Kind, byte, wants, words, m
 use Rattle.syntax.specs.Grammar.Want.{stop, number, digits, item, word}
 use Rattle.syntax.specs.Grammar.Part.{num, sub}
 use Rattle.syntax.specs.Grammar.Kind.{type, world, term}
-use Rattle.syntax.specs.Texts.{In, Text, shown, valued}
+use Rattle.syntax.specs.Texts.{In, valued}
+use Rattle.syntax.proofs.Texts.{Text, shown}
 use Rattle.syntax.specs.Texts.In.{here, there}
-use Rattle.syntax.specs.Texts.Text.{end, past, nought, some, rest, pick, spell}
+use Rattle.syntax.proofs.Texts.Text.{end, past, nought, some, rest, pick, spell}
 use Rattle.syntax.specs.Trees.{Parts, Prog, Fit, inside, written, station-parts, run-parts, stations-text, print, Each, Right}
 use Rattle.syntax.specs.Trees.Parts.{none, number as number′, form}
 use Rattle.syntax.specs.declared.grammar.Form.{Form}

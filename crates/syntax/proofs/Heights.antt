@@ -30,17 +30,17 @@ use Rattle.syntax.specs.Promises.{Read-low}
 use Rattle.syntax.proofs.Numbered.{rows-length, row-width, own-type, own-term, head-at, zero-plus}
 
 -- rows that stand in a table from a number on
-abbrev Stand : {A : Type 0} → List A → ℕ → List A → Type 0
+abbrev pub Stand : {A : Type 0} → List A → ℕ → List A → Type 0
 Stand {A} xs n ys = (pre : List A) × ((post : List A) × ((xs ≡ pre ++ (ys ++ post)) × (length pre ≡ n)))
 
-stand-left : {A : Type 0} (xs : List A) (n : ℕ) (ys zs : List A) → Stand xs n (ys ++ zs) → Stand xs n ys
+pub stand-left : {A : Type 0} (xs : List A) (n : ℕ) (ys zs : List A) → Stand xs n (ys ++ zs) → Stand xs n ys
 stand-left xs n ys zs h = (h .0, (zs ++ h .1 .0, (h .1 .1 .0 ∙ ap (λ l. h .0 ++ l) (append-assoc ys zs (h .1 .0)), h .1 .1 .1)))
 
-stand-right : {A : Type 0} (xs : List A) (n m : ℕ) (ys zs : List A) → length ys ≡ m → Stand xs n (ys ++ zs) → Stand xs (n + m) zs
+pub stand-right : {A : Type 0} (xs : List A) (n m : ℕ) (ys zs : List A) → length ys ≡ m → Stand xs n (ys ++ zs) → Stand xs (n + m) zs
 stand-right xs n m ys zs e h =
     (h .0 ++ ys, (h .1 .0, (h .1 .1 .0 ∙ ap (λ l. h .0 ++ l) (append-assoc ys zs (h .1 .0)) ∙ sym (append-assoc (h .0) ys (zs ++ h .1 .0)), length-append (h .0) ys ∙ ap (λ i. i + length ys) (h .1 .1 .1) ∙ ap (λ i. n + i) e)))
 
-stand-first : {A : Type 0} (xs : List A) (n : ℕ) (y : A) (ys : List A) (d : A) → Stand xs n (y ∷ ys) → getD xs n d ≡ y
+pub stand-first : {A : Type 0} (xs : List A) (n : ℕ) (y : A) (ys : List A) (d : A) → Stand xs n (y ∷ ys) → getD xs n d ≡ y
 stand-first xs n y ys d h = ap (λ l. getD l n d) (h .1 .1 .0) ∙ getD-at (h .0) y (ys ++ h .1 .0) d n (h .1 .1 .1)
 
 -- how many forms of a tree stand in one another
@@ -57,7 +57,7 @@ ty-map P Q f (Ty·Boxed a) h = f a h
 ty-map P Q f (Ty·At a) h = f a h
 ty-map P Q f (Ty·Both a b) h = (f a (h .0), f b (h .1))
 
-term-map : (P Q : ℕ → Type 0) → ((a : ℕ) → P a → Q a) → (t : Term) → Term-parts P t → Term-parts Q t
+pub term-map : (P Q : ℕ → Type 0) → ((a : ℕ) → P a → Q a) → (t : Term) → Term-parts P t → Term-parts Q t
 term-map P Q f (Term·Num n) h = tt
 term-map P Q f (Term·Value n) h = tt
 term-map P Q f (Term·Lam t a) h = f a h
@@ -79,12 +79,12 @@ term-map P Q f (Term·Below t a b c d) h = (f a (h .0), f b (h .1), f c (h .2), 
 
 module _ (tys : List Ty) (tms : List Term) where
   -- what is low is as low as more
-  ty-more : (k m n : ℕ) → k ≤ m → Ty-low tys k n → Ty-low tys m n
+  pub ty-more : (k m n : ℕ) → k ≤ m → Ty-low tys k n → Ty-low tys m n
   ty-more zero m n l h = absurd h
   ty-more (suc k) zero n l h = absurd (omega arith)
   ty-more (suc k) (suc m) n l h = ty-map (λ a. Ty-low tys k a) (λ a. Ty-low tys m a) (λ a g. ty-more k m a (omega arith) g) (getD tys n Ty·Num) h
 
-  term-more : (k m n : ℕ) → k ≤ m → Term-low tms k n → Term-low tms m n
+  pub term-more : (k m n : ℕ) → k ≤ m → Term-low tms k n → Term-low tms m n
   term-more zero m n l h = absurd h
   term-more (suc k) zero n l h = absurd (omega arith)
   term-more (suc k) (suc m) n l h = term-map (λ a. Term-low tms k a) (λ a. Term-low tms m a) (λ a g. term-more k m a (omega arith) g) (getD tms n (Term·Num 0)) h

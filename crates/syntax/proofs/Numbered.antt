@@ -18,6 +18,7 @@ use Rattle.syntax.specs.declared.grammar.Form.{Form}
 use Rattle.syntax.specs.declared.grammar.Form.the-variants.{TNum, TNone, TFn, TBox, TAt, TBoth, Site, Bound, Num, Val, Lam, App, Boxed, Unbox, Here, Letd, Getb, Getd, Getn, Pair, Fst, Snd, Letcc, Throw, Go, Gauge, Gate, Below, Station, Run}
 use Rattle.syntax.specs.declared.grammar.Sort.{Sort}
 use Rattle.syntax.specs.declared.grammar.Sort.the-variants.{Types, Worlds, Terms, First, Further}
+use Rattle.syntax.specs.declared.program.World.the-variants.{Site as World·Site, Bound as World·Bound}
 use Rattle.syntax.specs.declared.program.Ty.the-variants.{Num as Ty·Num}
 use Rattle.syntax.specs.declared.program.Term.the-variants.{Num as Term·Num}
 use Rattle.syntax.proofs.Rows.{Makes, makes}
@@ -137,7 +138,7 @@ module _ (m l : ℕ) where
   world-good : (c n : ℕ) → Small n → World-sound (world-by c n)
   world-good c n h = at (eqb c 0)
     where
-      at : (b : Bool) → World-sound (cond b (Rattle.syntax.specs.declared.program.World.the-variants.Site n) (Rattle.syntax.specs.declared.program.World.the-variants.Bound n))
+      at : (b : Bool) → World-sound (cond b (World·Site n) (World·Bound n))
       at true = h
       at false = h
 

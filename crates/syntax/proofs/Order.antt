@@ -3,28 +3,37 @@ use mathlib.Core.Path.{_≡_, refl, sym, ap, _∙_, subst}
 use mathlib.Core.List.{List, [], _∷_, _++_}
 use mathlib.Core.Bool.{Bool, true, false, cond, _&&_}
 use mathlib.Core.Logic.{_⊎_, inl, inr, ⊎-elim}
-use Prim.Native.Nat.{ℕ, _+_, _*_, _-_, _<_, _≤_}
+use Prim.Native.Nat.{ℕ, _+_, _*_, _-_, _^_, _<_, _≤_}
 use native.Mathlib.Omega.{arith}
 use lib.Dec.{eqb, ltb, leb}
 use lib.ListN.{length}
 use Rattle.std.proofs.shelf.Tests.{ltb-false, leb-true, le-leb, le-ltb, lt-ltb, and-parts, and-from, both-ways, cases-eq, cases-lt}
-use Rattle.std.proofs.shelf.Lists.{append-assoc, length-push, length-append, append-cancel-left}
+use Rattle.std.proofs.shelf.Lists.{append-assoc, length-push, length-append}
 use Rattle.syntax.specs.Grammar.{Stop, Want, byte, words}
 use Rattle.syntax.specs.Grammar.Want.{stop, number, digits, item, word}
 use Rattle.syntax.specs.Reading.{Seen, Outcome, go, read, start-none, after as rests, began, begun, digit, full}
 use Rattle.syntax.specs.Reading.Move.{on, off}
 use Rattle.syntax.specs.Reading.Outcome.{done, refused}
-use Rattle.syntax.specs.Texts.{In, Text, shown, Digits, valued, New, new-item, new-number, noted, places}
+use Rattle.syntax.specs.Texts.{In, Digits, valued}
+use Rattle.syntax.proofs.Texts.{Text, shown, Whole, Nth-in}
+use Rattle.syntax.proofs.Same.{beyond-above, sorted, told, nth-in}
+use Rattle.syntax.proofs.Spelled.{spelt-out}
+use Rattle.syntax.proofs.Numbers.{own}
+use Rattle.std.specs.Written.{decimal}
+use Rattle.std.proofs.shelf.Decimals.{digits-decimal, value-decimal}
+use Rattle.syntax.specs.Refusals.{New}
 use Rattle.syntax.specs.Texts.In.{here, there}
-use Rattle.syntax.specs.Texts.Text.{end, past, nought, some, rest, pick, spell}
-use Rattle.syntax.specs.Texts.New.{new-line, new-count, new-term, new-type}
-use Rattle.syntax.specs.Refusals.{Whole, Wrong, Stands, Nth, Deep, Many, Sheeted, Holds, Before, Given}
+use Rattle.syntax.proofs.Texts.Text.{end, past, nought, some, rest, pick, spell}
+use Rattle.syntax.specs.Refusals.New.{new-line, new-count, new-term, new-type}
+use Rattle.syntax.specs.Refusals.{tally, Wrong, Stands, Nth, Deep, Many, Sheeted, Holds, Before, Given}
 use Rattle.syntax.specs.Refusals.Sheeted.{a-line, a-count}
 use Rattle.syntax.specs.Refusals.Holds.{too-long, no-text, too-deep, too-many, too-wide}
 use Rattle.syntax.specs.declared.grammar.Form.{Form}
 use Rattle.syntax.specs.declared.grammar.Sort.{Sort}
 use Rattle.syntax.specs.declared.grammar.Sort.the-variants.{Types, Worlds, Terms, First, Further}
-use Rattle.syntax.specs.Promises.{Refused-exactly, Accepted-exactly}
+use Rattle.syntax.specs.Promises.{Texts, whole, Refused-exactly, Accepted-exactly, Answered}
+use Rattle.syntax.specs.Trees.{Prog}
+use Rattle.syntax.proofs.Exact.{read-right}
 use Rattle.syntax.proofs.Steps.{go-cons, moved, number-some, digits-sheet, digits-on}
 use Rattle.syntax.proofs.Theory.{Follows, takes, mark, beyond, places-first, no-digit, valued-ge}
 use Rattle.syntax.proofs.Places.{Longer, splits, Place, not-done, one-place, refused-at, accepted}
@@ -33,68 +42,9 @@ use Rattle.syntax.proofs.Depths.{Inv, Clean, Neat, closers, not-open}
 use Rattle.syntax.proofs.Reach.{held, Comes, come, Halt, halt}
 use Rattle.syntax.proofs.Reach.Comes.{stops, comes}
 use Rattle.syntax.proofs.Begun.{both-lines, Lined}
-use Rattle.syntax.proofs.Ways.{Way, way, Below}
+use Rattle.syntax.proofs.Ways.{Way, way}
 
--- all begin from a place on
-abbrev pub Above : ℕ → List ℕ → Type 0
-Above n [] = Unit {0}
-Above n (i ∷ l) = (n ≤ i) × Above n l
-
-above-less : (n m : ℕ) (l : List ℕ) → n ≤ m → Above m l → Above n l
-above-less n m [] h k = tt
-above-less n m (i ∷ l) h k = (omega (arith, k .0), above-less n m l h (k .1))
-
-above-noted : (b : Bool) (i : ℕ) (l : List ℕ) → Above i l → Above i (noted b i l)
-above-noted true i l h = (omega arith, h)
-above-noted false i l h = h
-
-places-above : (x : New) {ws : List Want} (t : Text ws) (i : ℕ) → Above i (places x t i)
-places-above x end i = tt
-places-above x (past a t) i = above-less i (i + 1) (places x t (i + 1)) (omega arith) (places-above x t (i + 1))
-places-above x (nought k a t) i = above-noted (new-number x k) i (places x t (i + 2)) (above-less i (i + 2) (places x t (i + 2)) (omega arith) (places-above x t (i + 2)))
-places-above x (some k a c ds h n hs l t) i =
-    let j : ℕ = i + length ds + 2 in
-    above-noted (new-number x k) i (places x t j) (above-less i j (places x t j) (omega arith) (places-above x t j))
-places-above x (rest k p v a ds hs l t) i = let j : ℕ = i + length ds + 1 in above-less i j (places x t j) (omega arith) (places-above x t j)
-places-above x (pick o b d w f m t) i =
-    let j : ℕ = i + length w + 2 in
-    above-noted (new-item x o) i (places x t j) (above-less i j (places x t j) (omega arith) (places-above x t j))
-places-above x (spell o ks h b w f m t) i = let j : ℕ = i + length w + 1 in above-less i j (places x t j) (omega arith) (places-above x t j)
-
-pub beyond-above : (x : New) {ws : List Want} (t : Text ws) (i : ℕ) → Above (i + 1) (beyond x t i)
-beyond-above x end i = tt
-beyond-above x (past a t) i = places-above x t (i + 1)
-beyond-above x (nought k a t) i = above-less (i + 1) (i + 2) (places x t (i + 2)) (omega arith) (places-above x t (i + 2))
-beyond-above x (some k a c ds h n hs l t) i = let j : ℕ = i + length ds + 2 in above-less (i + 1) j (places x t j) (omega arith) (places-above x t j)
-beyond-above x (rest k p v a ds hs l t) i = let j : ℕ = i + length ds + 1 in above-less (i + 1) j (places x t j) (omega arith) (places-above x t j)
-beyond-above x (pick o b d w f m t) i = let j : ℕ = i + length w + 2 in above-less (i + 1) j (places x t j) (omega arith) (places-above x t j)
-beyond-above x (spell o ks h b w f m t) i = let j : ℕ = i + length w + 1 in above-less (i + 1) j (places x t j) (omega arith) (places-above x t j)
-
-not-above : (i : ℕ) (l r : List ℕ) → Above (i + 1) (l ++ i ∷ r) → ⊥
-not-above i [] r h = omega (arith, h .0)
-not-above i (j ∷ l) r h = not-above i l r (h .1)
-
-not-below : (i : ℕ) (l r : List ℕ) → Below i (l ++ i ∷ r) → ⊥
-not-below i [] r h = omega (arith, h .0)
-not-below i (j ∷ l) r h = not-below i l r (h .1)
-
--- the place of a thing is where one is wanted, and as many began before as were counted
-module _ (i n : ℕ) (past l r b : List ℕ) (low : Below i past) (high : Above (i + 1) b) (size : length l ≡ n) where
-  pub sorted : (m : Bool) → past ++ noted m i b ≡ l ++ i ∷ r → (m ≡ true) × (length past ≡ n)
-  sorted true e = (refl, ⊎-elim (λ (q : l ≡ past). ap (λ (x : List ℕ). length x) (sym q) ∙ size)
-      (⊎-elim (λ (q : Longer l past (i ∷ r)). absurd (let d-is : q .d ≡ i = (let z = q .rest in cc) in not-below i l (q .y) (subst (Below i) (q .is ∙ ap (λ (x : ℕ). l ++ x ∷ q .y) d-is) low)))
-        (λ (q : Longer past l (i ∷ b)). absurd
-          (let z : i ∷ b ≡ q .d ∷ (q .y ++ i ∷ r) = append-cancel-left past (i ∷ b) (q .d ∷ (q .y ++ i ∷ r)) (e ∙ ap (λ (x : List ℕ). x ++ i ∷ r) (q .is) ∙ append-assoc past (q .d ∷ q .y) (i ∷ r)) in
-           let y : b ≡ q .y ++ i ∷ r = cc in not-above i (q .y) r (subst (Above (i + 1)) y high))))
-      (splits l (i ∷ r) past (i ∷ b) (sym e)))
-  sorted false e = absurd (⊎-elim
-      (λ (q : l ≡ past). let z : b ≡ i ∷ r = append-cancel-left past b (i ∷ r) (e ∙ ap (λ (x : List ℕ). x ++ i ∷ r) q) in not-above i [] r (subst (Above (i + 1)) z high))
-      (⊎-elim (λ (q : Longer l past (i ∷ r)). let d-is : q .d ≡ i = (let z = q .rest in cc) in not-below i l (q .y) (subst (Below i) (q .is ∙ ap (λ (x : ℕ). l ++ x ∷ q .y) d-is) low))
-        (λ (q : Longer past l b). let z : b ≡ q .d ∷ (q .y ++ i ∷ r) = append-cancel-left past b (q .d ∷ (q .y ++ i ∷ r)) (e ∙ ap (λ (x : List ℕ). x ++ i ∷ r) (q .is) ∙ append-assoc past (q .d ∷ q .y) (i ∷ r)) in
-           not-above i (q .d ∷ q .y) r (subst (Above (i + 1)) z high)))
-      (splits l (i ∷ r) past b (sym e)))
-
-here-wanted : (x : New) (n : ℕ) (before : List ℕ) (ws : List Want) (s : Seen) (t : Whole) (to-come : List ℕ) (w : Way before ws s t to-come) → Nth x n t (length before) → (mark x ws ≡ true) × (length (w .past x) ≡ n)
+here-wanted : (x : New) (n : ℕ) (before : List ℕ) (ws : List Want) (s : Seen) (t : Whole) (to-come : List ℕ) (w : Way before ws s t to-come) → Nth-in x n t (length before) → (mark x ws ≡ true) × (length (w .past x) ≡ n)
 here-wanted x n before ws s t to-come w h =
     let i : ℕ = length before in
     sorted i n (w .past x) (h .0) (h .1 .0) (beyond x (w .left) i) (w .below x) (beyond-above x (w .left) i) (h .1 .1 .1) (mark x ws)
@@ -199,6 +149,14 @@ module _ (o : Sort) (vs : List Want) (s : Seen) (i c : ℕ) (after : List ℕ) (
       by true h = inl h
       by false h = inr (h ∙ ap (λ (b : Bool). moved after i (cond b (off 13 i) (on (word o (x ∷ l) ∷ vs) (begun o s)))) f)
 
+deep-at : (before after more : List ℕ) (ws : List Want) (s : Seen) → Inv before ws s → (u : Text ws) → shown u ≡ 40 ∷ more → tally 41 before + 64 ≤ tally 40 before → go (40 ∷ after) ws s (length before) ≡ refused 12 (length before)
+deep-at before after more ws s v u e h = by (heads-item u more (v .clean) e)
+  where
+    at : (o : Sort) (vs : List Want) → Inv before (item o ∷ vs) s → (t : Text (item o ∷ vs)) → shown t ≡ 40 ∷ more → go (40 ∷ after) (item o ∷ vs) s (length before) ≡ refused 12 (length before)
+    at o vs w t f = let y = item-word o vs t 40 more f in item-deep o vs s (length before) 40 after (y .0) (y .1 .0) (y .1 .1) refl (omega (arith, h, w .count, w .depth))
+    by : (o : Sort) × ((vs : List Want) × (ws ≡ item o ∷ vs)) → go (40 ∷ after) ws s (length before) ≡ refused 12 (length before)
+    by k = subst (λ (z : List Want). Inv before z s → (t : Text z) → shown t ≡ 40 ∷ more → go (40 ∷ after) z s (length before) ≡ refused 12 (length before)) (sym (k .1 .1)) (at (k .0) (k .1 .0)) v u e
+
 deep-law : (bs : List ℕ) (q : ℕ) → Deep bs q → Sooner bs 12 q
 deep-law bs q d = by (come (x .before) (40 ∷ x .after) bs (x .split))
   where
@@ -207,36 +165,32 @@ deep-law bs q d = by (come (x .before) (40 ∷ x .after) bs (x .split))
     by : Comes bs (x .before) (40 ∷ x .after) → Sooner bs 12 q
     by (stops n p h e) = record { n = n; p = p; answer = e; order = inl (omega (arith, x .place)) }
     by (comes ws s r e) =
-        let w = way r (x .text) (40 ∷ x .more) (x .alive) in
-        let v = held r in
-        let k = heads-item (w .left) (x .more) (v .clean) (w .is) in
-        record { n = 12; p = length (x .before);
-          answer = e ∙ subst (λ (z : List Want). Inv (x .before) z s → (u : Text z) → shown u ≡ 40 ∷ x .more → go (40 ∷ x .after) z s (length (x .before)) ≡ refused 12 (length (x .before))) (sym (k .1 .1))
-            (λ v u f. let y = item-word (k .0) (k .1 .0) u 40 (x .more) f in item-deep (k .0) (k .1 .0) s (length (x .before)) 40 (x .after) (y .0) (y .1 .0) (y .1 .1) refl (omega (arith, d .1, v .count, v .depth)))
-            v (w .left) (w .is);
-          order = inr (sym (x .place), omega arith) }
+        let t = spelt-out (x .some) (x .right) in
+        let w = way r (t .text) (40 ∷ x .more) (t .is ∙ x .alive) in
+        record { n = 12; p = length (x .before); answer = e ∙ deep-at (x .before) (x .after) (x .more) ws s (held r) (w .left) (w .is) (d .1); order = inr (sym (x .place), omega arith) }
 
-full-law : (bs : List ℕ) (q c : ℕ) (x : Stands bs q (c ∷ [])) (y : New) (o : Sort) (n : ℕ) → Nth y n (x .text) q → ((ws : List Want) → mark y ws ≡ true → (vs : List Want) × (ws ≡ item o ∷ vs)) →
-  ((ws : List Want) (s : Seen) (w : Way (x .before) ws s (x .text) (c ∷ x .more)) → length (w .past y) ≡ n → full o s ≡ true) → Sooner bs 13 q
+full-law : (bs : List ℕ) (q c : ℕ) (x : Stands bs q (c ∷ [])) (y : New) (o : Sort) (n : ℕ) → Nth y n (x .some) q → ((ws : List Want) → mark y ws ≡ true → (vs : List Want) × (ws ≡ item o ∷ vs)) →
+  ((ws : List Want) (s : Seen) (t : Whole) (w : Way (x .before) ws s t (c ∷ x .more)) → length (w .past y) ≡ n → full o s ≡ true) → Sooner bs 13 q
 full-law bs q c x y o n h heads fills = by (come (x .before) (c ∷ x .after) bs (x .split))
   where
     by : Comes bs (x .before) (c ∷ x .after) → Sooner bs 13 q
     by (stops m p l e) = record { n = m; p = p; answer = e; order = inl (omega (arith, x .place)) }
     by (comes ws s r e) =
-        let w = way r (x .text) (c ∷ x .more) (x .alive) in
-        let a = here-wanted y n (x .before) ws s (x .text) (c ∷ x .more) w (subst (Nth y n (x .text)) (x .place) h) in
+        let t = spelt-out (x .some) (x .right) in
+        let w = way r (t .text) (c ∷ x .more) (t .is ∙ x .alive) in
+        let a = here-wanted y n (x .before) ws s (t .text) (c ∷ x .more) w (nth-in y n (t .text) (x .some) (length (x .before)) (sym (t .at y)) (subst (Nth y n (x .some)) (x .place) h)) in
         let k = heads ws (a .0) in
         let g : (go (c ∷ x .after) ws s (length (x .before)) ≡ refused 12 (length (x .before))) ⊎ (go (c ∷ x .after) ws s (length (x .before)) ≡ refused 13 (length (x .before))) =
           subst (λ (z : List Want). (u : Text z) → shown u ≡ c ∷ x .more → (go (c ∷ x .after) z s (length (x .before)) ≡ refused 12 (length (x .before))) ⊎ (go (c ∷ x .after) z s (length (x .before)) ≡ refused 13 (length (x .before)))) (sym (k .1))
-            (λ u f. let b = item-word o (k .0) u c (x .more) f in item-full o (k .0) s (length (x .before)) c (x .after) (b .0) (b .1 .0) (b .1 .1) (fills ws s w (a .1)))
+            (λ u f. let b = item-word o (k .0) u c (x .more) f in item-full o (k .0) s (length (x .before)) c (x .after) (b .0) (b .1 .0) (b .1 .1) (fills ws s (t .text) w (a .1)))
             (w .left) (w .is) in
         ⊎-elim (λ (f : go (c ∷ x .after) ws s (length (x .before)) ≡ refused 12 (length (x .before))). record { n = 12; p = length (x .before); answer = e ∙ f; order = inr (sym (x .place), omega arith) })
           (λ (f : go (c ∷ x .after) ws s (length (x .before)) ≡ refused 13 (length (x .before))). record { n = 13; p = length (x .before); answer = e ∙ f; order = inr (sym (x .place), omega arith) }) g
 
 many-law : (bs : List ℕ) (q : ℕ) → Many bs q → Sooner bs 13 q
 many-law bs q d = ⊎-elim
-    (λ (h : Nth new-term 1024 (d .1 .0 .text) q). full-law bs q (d .0) (d .1 .0) new-term Terms 1024 h heads-term (λ ws s w e. le-leb 1024 (length (s .tms)) (let z = w .sizes in omega (arith, z .tms))))
-    (λ (h : Nth new-type 512 (d .1 .0 .text) q). full-law bs q (d .0) (d .1 .0) new-type Types 512 h heads-type (λ ws s w e. le-leb 512 (length (s .tys)) (let z = w .sizes in omega (arith, z .tys))))
+    (λ (h : Nth new-term 1024 (d .1 .0 .some) q). full-law bs q (d .0) (d .1 .0) new-term Terms 1024 h heads-term (λ ws s t w e. le-leb 1024 (length (s .tms)) (let z = w .sizes in omega (arith, z .tms))))
+    (λ (h : Nth new-type 512 (d .1 .0 .some) q). full-law bs q (d .0) (d .1 .0) new-type Types 512 h heads-type (λ ws s t w e. le-leb 512 (length (s .tys)) (let z = w .sizes in omega (arith, z .tys))))
     (d .1 .1)
 
 -- the 17th line
@@ -248,15 +202,16 @@ line-goes s i after d h =
     ∙ ap (λ (b : Bool). moved after (i + 1) (cond b (off 14 (i + 1 - 1)) (on (word Further (rests 115 both-lines) ∷ []) s))) (le-leb 16 (length (s .stations)) h)
     ∙ ap (refused 14) (let z : i + 1 - 1 ≡ i = omega arith in z)
 
-line-law : (bs : List ℕ) (q : ℕ) (x : Stands bs q (40 ∷ 115 ∷ [])) → Nth new-line 16 (x .text) q → Sooner bs 14 q
+line-law : (bs : List ℕ) (q : ℕ) (x : Stands bs q (40 ∷ 115 ∷ [])) → Nth new-line 16 (x .some) q → Sooner bs 14 q
 line-law bs q x h = by (come (x .before) (40 ∷ 115 ∷ x .after) bs (x .split))
   where
     by : Comes bs (x .before) (40 ∷ 115 ∷ x .after) → Sooner bs 14 q
     by (stops m p l e) = record { n = m; p = p; answer = e; order = inl (omega (arith, x .place)) }
     by (comes ws s r e) =
         let i : ℕ = length (x .before) in
-        let w = way r (x .text) (40 ∷ 115 ∷ x .more) (x .alive) in
-        let a = here-wanted new-line 16 (x .before) ws s (x .text) (40 ∷ 115 ∷ x .more) w (subst (Nth new-line 16 (x .text)) (x .place) h) in
+        let t = spelt-out (x .some) (x .right) in
+        let w = way r (t .text) (40 ∷ 115 ∷ x .more) (t .is ∙ x .alive) in
+        let a = here-wanted new-line 16 (x .before) ws s (t .text) (40 ∷ 115 ∷ x .more) w (nth-in new-line 16 (t .text) (x .some) (length (x .before)) (sym (t .at new-line)) (subst (Nth new-line 16 (x .some)) (x .place) h)) in
         let k = heads-line ws (a .0) in
         let v = held r in
         ⊎-elim
@@ -310,14 +265,15 @@ number-law a ws s after (d ∷ ds) more i u e h l = by u e
         number-some (d ∷ ds ++ after) i true a ws s d (ds ++ after) refl (h .0) (λ r. n (z ∙ r)) (d - 48) refl
         ∙ digits-law a ws s after ds more i (d - 48) (i + 1) (rest true i (d - 48) a cs hs b′ t) y (h .1) (subst (λ (x : ℕ). 32 < valued x ds) v l) (omega (arith, leb-true d 57 (q .1)))
 
-count-law : (bs : List ℕ) (q n : ℕ) (ds : List ℕ) → Digits ds → 32 < valued 0 ds → (x : Stands bs q ds) → Nth new-count n (x .text) q → Sooner bs 14 q
+count-law : (bs : List ℕ) (q n : ℕ) (ds : List ℕ) → Digits ds → 32 < valued 0 ds → (x : Stands bs q ds) → Nth new-count n (x .some) q → Sooner bs 14 q
 count-law bs q n ds g l x h = by (come (x .before) (ds ++ x .after) bs (x .split))
   where
     by : Comes bs (x .before) (ds ++ x .after) → Sooner bs 14 q
     by (stops m p l e) = record { n = m; p = p; answer = e; order = inl (omega (arith, x .place)) }
     by (comes ws s r e) =
-        let w = way r (x .text) (ds ++ x .more) (x .alive) in
-        let a = here-wanted new-count n (x .before) ws s (x .text) (ds ++ x .more) w (subst (Nth new-count n (x .text)) (x .place) h) in
+        let t = spelt-out (x .some) (x .right) in
+        let w = way r (t .text) (ds ++ x .more) (t .is ∙ x .alive) in
+        let a = here-wanted new-count n (x .before) ws s (t .text) (ds ++ x .more) w (nth-in new-count n (t .text) (x .some) (length (x .before)) (sym (t .at new-count)) (subst (Nth new-count n (x .some)) (x .place) h)) in
         let k = heads-count ws (a .0) in
         record { n = 14; p = length (x .before);
           answer = e ∙ subst (λ (z : List Want). (u : Text z) → shown u ≡ ds ++ x .more → go (ds ++ x .after) z s (length (x .before)) ≡ refused 14 (length (x .before))) (sym (k .1 .1))
@@ -326,11 +282,17 @@ count-law bs q n ds g l x h = by (come (x .before) (ds ++ x .after) bs (x .split
 
 sheet-law : (bs : List ℕ) (q : ℕ) → Sheeted bs q → Sooner bs 14 q
 sheet-law bs q (a-line x h) = line-law bs q x h
-sheet-law bs q (a-count ds g l x n h) = count-law bs q n ds g l x h
+sheet-law bs q (a-count v l u x n h) =
+    let b : v < 2 ^ 64 = omega arith in
+    count-law bs q n (decimal v) (digits-decimal own v b) (subst (λ (y : ℕ). 32 < y) (sym (value-decimal own v b)) l) x h
 
 -- no text goes on so
 place : (bs : List ℕ) (q : ℕ) → Wrong bs q → Place bs (item First ∷ []) 0 q
-place bs q w = record { before = w .before; after = w .after; split = w .split; place = omega (arith, w .place); text = w .text; more = w .more; alive = w .alive; dead = w .dead; short = w .short }
+place bs q w =
+    let t = spelt-out (w .some) (w .right) in
+    record { before = w .before; after = w .after; split = w .split; place = omega (arith, w .place); text = t .text; more = w .more; alive = t .is ∙ w .alive;
+      dead = λ d x y e u h. let g = told u in w .dead d x y e (g .prog) (g .right) (g .same ∙ h);
+      short = λ e u h. let g = told u in w .short e (g .prog) (g .right) (g .same ∙ h) }
 
 wrong-law : (bs : List ℕ) (q : ℕ) → Wrong bs q → Sooner bs 11 q
 wrong-law bs q w = at (go bs (item First ∷ []) start-none 0) refl
@@ -339,8 +301,8 @@ wrong-law bs q w = at (go bs (item First ∷ []) start-none 0) refl
     later n p h o = ⊎-elim
         (λ (e : w .before ≡ h .before ++ h .c ∷ []). omega (arith, h .low, w .place, ap (λ (x : List ℕ). length x) e, length-push (h .before) (h .c)))
         (⊎-elim
-          (λ (l : Longer (w .before) (h .before ++ h .c ∷ []) (w .after)). absurd (w .dead (l .d) (l .x) (l .y ++ o .more) (l .rest) (o .text)
-            (o .alive ∙ sym (append-assoc (h .before) (h .c ∷ []) (o .more)) ∙ ap (λ (x : List ℕ). x ++ o .more) (l .is) ∙ append-assoc (w .before) (l .d ∷ l .y) (o .more))))
+          (λ (l : Longer (w .before) (h .before ++ h .c ∷ []) (w .after)). absurd (w .dead (l .d) (l .x) (l .y ++ o .more) (l .rest) (told (o .text) .prog) (told (o .text) .right)
+            (told (o .text) .same ∙ o .alive ∙ sym (append-assoc (h .before) (h .c ∷ []) (o .more)) ∙ ap (λ (x : List ℕ). x ++ o .more) (l .is) ∙ append-assoc (w .before) (l .d ∷ l .y) (o .more))))
           (λ (l : Longer (h .before ++ h .c ∷ []) (w .before) (h .after)).
             let e : length (w .before) ≡ length (h .before ++ h .c ∷ []) + length (l .d ∷ l .y) = ap (λ (x : List ℕ). length x) (l .is) ∙ length-append (h .before ++ h .c ∷ []) (l .d ∷ l .y) in
             omega (arith, h .low, w .place, e, length-push (h .before) (h .c))))
@@ -414,3 +376,10 @@ accepted-exactly bs = (λ s e n p h. let a = answer bs n p h in let z : done s �
     by : ((n p : ℕ) → Holds bs n p → ⊥) → (o : Outcome) → read bs ≡ o → (s : Seen) × (read bs ≡ done s)
     by none (done s) e = (s, e)
     by none (refused n p) e = absurd (none n p (read-holds bs n p e))
+
+pub answered : Answered
+answered bs = by (read bs) refl
+  where
+    by : (o : Outcome) → read bs ≡ o → ((p : Prog) × (Texts bs p × (read bs ≡ done (whole p)))) ⊎ ((n : ℕ) × ((p : ℕ) × (Given bs n p × (read bs ≡ refused n p))))
+    by (done s) e = let a = read-right bs s e in inl (a .0, (a .1 .0, e ∙ ap done (a .1 .1)))
+    by (refused n p) e = inr (n, (p, (given bs n p e, e)))

@@ -10,14 +10,14 @@ use Rattle.syntax.specs.Grammar.Want.{stop, number, digits, item, word}
 use Rattle.syntax.specs.Reading.{Seen, Move, Outcome, go, step, over}
 use Rattle.syntax.specs.Reading.Move.{on, off}
 use Rattle.syntax.specs.Reading.Outcome.{done, refused}
-use Rattle.syntax.specs.Texts.{Text, shown}
+use Rattle.syntax.proofs.Texts.{Text, shown}
 use mathlib.Core.Logic.{_⊎_, inl, inr, ⊎-elim}
 use Rattle.std.proofs.shelf.Lists.{append-assoc, append-nil}
 use Rattle.syntax.specs.Reading.{start-none, read}
 use mathlib.Core.Bool.{Bool, true, false, cond}
 use lib.Dec.{ltb}
 use Rattle.syntax.specs.Texts.In.{here, there}
-use Rattle.syntax.specs.Texts.Text.{end, past, nought, some, rest, pick, spell}
+use Rattle.syntax.proofs.Texts.Text.{end, past, nought, some, rest, pick, spell}
 use Rattle.syntax.specs.declared.grammar.Form.the-variants.{TNum, Bound, Val, Station, Run}
 use Rattle.syntax.specs.declared.grammar.Sort.{Sort}
 use Rattle.syntax.specs.declared.grammar.Sort.the-variants.{Types, Worlds, Terms, First, Further}
@@ -69,7 +69,7 @@ complete (digits k q v a ∷ ws) p = rest k q v a [] tt (p .0) (plain-text ws (p
 complete (item o ∷ ws) p = fill o (plain-text ws p)
 complete (word o ks ∷ ws) p = spell o ks (p .1) (p .0 .b) (p .0 .w) (p .0 .f) (p .0 .found) (plain-text (wants (p .0 .f) ws) (plain-wants (p .0 .f) ws (p .2)))
 
-nothing : {v : Want} {vs : List Want} (t : Text (v ∷ vs)) → shown t ≡ [] → ⊥
+pub nothing : {v : Want} {vs : List Want} (t : Text (v ∷ vs)) → shown t ≡ [] → ⊥
 nothing (past a t) e = let z : _≡_ {A = ℕ} 0 1 = cc in omega arith
 nothing (nought k a t) e = let z : _≡_ {A = ℕ} 0 1 = cc in omega arith
 nothing (some k a c ds h n hs l t) e = let z : _≡_ {A = ℕ} 0 1 = cc in omega arith

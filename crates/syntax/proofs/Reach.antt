@@ -5,9 +5,9 @@ use mathlib.Core.Bool.{Bool, true, false, cond, _&&_}
 use Prim.Native.Nat.{ℕ, _+_, _*_, _-_, _<_, _≤_}
 use native.Mathlib.Omega.{arith}
 use lib.Dec.{eqb, ltb, leb}
-use lib.ListN.{length}
+use lib.ListN.{length, getD}
 use Rattle.std.proofs.shelf.Tests.{eqb-true, eqb-false, ltb-true, leb-true, and-parts}
-use Rattle.std.proofs.shelf.Lists.{append-assoc, append-nil, length-push, length-append}
+use Rattle.std.proofs.shelf.Lists.{append-assoc, append-nil, length-push, length-append, getD-append-left}
 use Rattle.syntax.specs.Grammar.{Stop, Want, byte, wants, words}
 use Rattle.syntax.specs.Grammar.Want.{stop, number, digits, item, word}
 use Rattle.syntax.specs.Reading.{Seen, Move, go, step, over, start-none, after, began, spelled, digit, full, begun, many, passed, push, counted, opened}
@@ -99,6 +99,8 @@ pub record Tail (before : List ℕ) (j v : ℕ) : Type 0 where
   pub place : length pre ≡ j
   pub all : Digits ds
   pub value : valued 0 ds ≡ v
+  pub some : 0 < length ds
+  pub lead : getD ds 0 0 ≡ 48 → ⊥
 
 digits-push : (ds : List ℕ) (c : ℕ) → Digits ds → digit c ≡ true → Digits (ds ++ c ∷ [])
 digits-push [] c h k = (k, tt)
@@ -111,7 +113,8 @@ valued-push v (d ∷ ds) c = valued-push (v * 10 + (d - 48)) ds c
 pub more-tail : (before : List ℕ) (j v c : ℕ) → Tail before j v → digit c ≡ true → Tail (before ++ c ∷ []) j (v * 10 + (c - 48))
 more-tail before j v c t h =
     record { pre = t .pre; ds = t .ds ++ c ∷ []; is = ap (λ (x : List ℕ). x ++ c ∷ []) (t .is) ∙ append-assoc (t .pre) (t .ds) (c ∷ []); place = t .place;
-      all = digits-push (t .ds) c (t .all) h; value = valued-push 0 (t .ds) c ∙ ap (λ (x : ℕ). x * 10 + (c - 48)) (t .value) }
+      all = digits-push (t .ds) c (t .all) h; value = valued-push 0 (t .ds) c ∙ ap (λ (x : ℕ). x * 10 + (c - 48)) (t .value);
+      some = omega (arith, length-push (t .ds) c, t .some); lead = λ e. t .lead (sym (getD-append-left (t .ds) (c ∷ []) 0 0 (t .some)) ∙ e) }
 
 -- a number that is half read has its digits behind it, and does not pass its limit
 abbrev pub Half : List ℕ → List Want → Type 0
@@ -141,7 +144,7 @@ half-step : (before : List ℕ) (s : Seen) (c : ℕ) {ws : List Want} {m : Move}
 half-step before s c wrong p h = omega arith
 half-step before s c (stopped {a} {ws} e) p h = half-plain (before ++ c ∷ []) ws p
 half-step before s c (zeroed e) p h = tt
-half-step before s c (digited {k} e n) p h = (record { pre = before; ds = c ∷ []; is = refl; place = refl; all = (e, tt); value = omega arith }, small k c e)
+half-step before s c (digited {k} e n) p h = (record { pre = before; ds = c ∷ []; is = refl; place = refl; all = (e, tt); value = omega arith; some = omega arith; lead = n }, small k c e)
 half-step before s c (numbered {k} {j} {v} {a} {ws} e) p h = half-plain (before ++ c ∷ []) ws (p .1)
 half-step before s c (longer {k} {j} {v} e l n) p h = (more-tail before j v c (h .0) e, n)
 half-step before s c (passes {k} {j} {v} e l n) p h = let t = h .0 in let z : length before ≡ length (t .pre) + length (t .ds) = ap (λ (x : List ℕ). length x) (t .is) ∙ length-append (t .pre) (t .ds) in omega (arith, t .place)

@@ -90,7 +90,7 @@ level Terms = 2
 level First = 3
 level Further = 4
 
-no-line : (k : Kind) → Further ≡ sort-of k → ⊥
+pub no-line : (k : Kind) → Further ≡ sort-of k → ⊥
 no-line type e = let z : _≡_ {A = ℕ} 4 0 = ap level e in omega arith
 no-line world e = let z : _≡_ {A = ℕ} 4 1 = ap level e in omega arith
 no-line term e = let z : _≡_ {A = ℕ} 4 2 = ap level e in omega arith

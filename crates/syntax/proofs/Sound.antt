@@ -11,9 +11,10 @@ use Rattle.syntax.specs.Grammar.Part.{num, sub}
 use Rattle.syntax.specs.Grammar.Want.{stop, number, digits, item, word}
 use Rattle.syntax.specs.Reading.{Seen, Move, step, after, began, spelled, digit, full, begun, many, passed, push, counted}
 use Rattle.syntax.specs.Reading.Move.{on, off}
-use Rattle.syntax.specs.Texts.{In, Digits, valued, Apart, Text, shown}
+use Rattle.syntax.specs.Texts.{In, Digits, valued, Apart}
+use Rattle.syntax.proofs.Texts.{Text, shown}
 use Rattle.syntax.specs.Texts.In.{here, there}
-use Rattle.syntax.specs.Texts.Text.{past, nought, some, rest, pick, spell}
+use Rattle.syntax.proofs.Texts.Text.{past, nought, some, rest, pick, spell}
 use Rattle.syntax.specs.declared.grammar.Form.{Form}
 use Rattle.syntax.specs.declared.grammar.Form.the-variants.{TNum, TNone, TFn, TBox, TAt, TBoth, Site, Bound, Num, Val, Lam, App, Boxed, Unbox, Here, Letd, Getb, Getd, Getn, Pair, Fst, Snd, Letcc, Throw, Go, Gauge, Gate, Below, Station, Run}
 use Rattle.syntax.specs.declared.grammar.Sort.{Sort}

@@ -12,9 +12,11 @@ use Rattle.syntax.specs.Grammar.Stop.{space, close, line}
 use Rattle.syntax.specs.Grammar.Want.{stop, number, digits, item, word}
 use Rattle.syntax.specs.Reading.{Seen, Move, step, after, began, spelled, digit, full, begun, many, passed, push, counted}
 use Rattle.syntax.specs.Reading.Move.{on, off}
-use Rattle.syntax.specs.Texts.{In, valued, begins, Far, Apart, Text, shown, New, new-item, new-number, noted, places}
+use Rattle.syntax.specs.Texts.{In, valued, begins, Far, Apart}
+use Rattle.syntax.proofs.Texts.{Text, shown, places}
+use Rattle.syntax.specs.Refusals.{New, new-item, new-number, noted}
 use Rattle.syntax.specs.Texts.In.{here, there}
-use Rattle.syntax.specs.Texts.Text.{end, past, nought, some, rest, pick, spell}
+use Rattle.syntax.proofs.Texts.Text.{end, past, nought, some, rest, pick, spell}
 use Rattle.syntax.specs.declared.grammar.Form.{Form}
 use Rattle.syntax.specs.declared.grammar.Form.the-variants.{TNum, TNone, TFn, TBox, TAt, TBoth, Site, Bound, Num, Val, Lam, App, Boxed, Unbox, Here, Letd, Getb, Getd, Getn, Pair, Fst, Snd, Letcc, Throw, Go, Gauge, Gate, Below, Station, Run}
 use Rattle.syntax.specs.declared.grammar.Sort.{Sort}

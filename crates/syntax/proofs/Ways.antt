@@ -13,8 +13,9 @@ use Rattle.syntax.specs.Grammar.Stop.{space, close, line}
 use Rattle.syntax.specs.Grammar.Want.{stop, number, digits, item, word}
 use Rattle.syntax.specs.Reading.{Seen, Move, step, full, begun, passed, push, opened, at-depth}
 use Rattle.syntax.specs.Reading.Move.{on, off}
-use Rattle.syntax.specs.Texts.{Text, shown, New, new-item, noted, places}
-use Rattle.syntax.specs.Texts.New.{new-line, new-count, new-term, new-type}
+use Rattle.syntax.proofs.Texts.{Text, shown, places}
+use Rattle.syntax.specs.Refusals.{New, new-item, noted}
+use Rattle.syntax.specs.Refusals.New.{new-line, new-count, new-term, new-type}
 use Rattle.syntax.specs.declared.grammar.Sort.{Sort}
 use Rattle.syntax.specs.declared.grammar.Sort.the-variants.{Types, Worlds, Terms, First, Further}
 use Rattle.syntax.proofs.Theory.{Follows, takes, beyond, mark, places-first}
@@ -23,7 +24,7 @@ use Rattle.syntax.proofs.Forms.{begun-sizes, settled-sizes}
 use Rattle.syntax.proofs.Reach.{Stepped, Reach, held, step-is}
 use Rattle.syntax.proofs.Reach.Reach.{begin, next}
 use Rattle.syntax.proofs.Begun.{Lined, line-step}
-use Rattle.syntax.specs.Refusals.{Whole as Text-whole}
+use Rattle.syntax.proofs.Texts.{Whole as Text-whole}
 use Rattle.syntax.proofs.Reach.Stepped.{wrong, stopped, zeroed, digited, numbered, longer, passes, deeper, fuller, started, whole, letter, crowded}
 
 -- how many types and terms were begun

@@ -5,6 +5,9 @@ use Rattle.syntax.specs.Reading.{read, go}
 use Rattle.syntax.specs.Reading.Outcome.{done, refused}
 use lib.Chars.{codes}
 use Rattle.std.specs.Written.{digits}
+use Rattle.syntax.specs.Refusals.{begun-in}
+use Rattle.syntax.specs.Refusals.New.{new-line, new-count, new-term, new-type}
+use Rattle.syntax.specs.Sound.{sizes}
 use Rattle.syntax.specs.Trees.{Parts, Prog, print, table}
 use Rattle.syntax.specs.Trees.Parts.{none, number, form}
 use Rattle.syntax.specs.declared.grammar.Form.the-variants.{TNum, TBox, TAt, Site, Bound, Val, Lam, Letd, Getb, Getn, Gauge, Gate}
@@ -41,42 +44,67 @@ three-types = refl
 three-terms : table three .tms ≡ Term·Lam 0 1 ∷ Term·Letd 2 3 ∷ Term·Value 0 ∷ Term·Get Code (World·Bound 0) 4 ∷ Term·Value 0 ∷ []
 three-terms = refl
 
--- what is read of texts
-ex1 : read (codes "(station 33 0)") ≡ refused 14 9
-unfolding go
-ex1 = refl
+-- How many terms there are in each.
+three-sizes : sizes 0 (table three .tms) ≡ 5 ∷ 4 ∷ 1 ∷ 2 ∷ 1 ∷ []
+three-sizes = refl
 
-ex2 : read (codes "(station 3x 0)") ≡ refused 11 10
-unfolding go
-ex2 = refl
+-- Where things begin in the text of the first program.
+one-lines : begun-in new-line one ≡ 0 ∷ 14 ∷ 28 ∷ []
+unfolding digits
+one-lines = refl
 
-ex3 : read (codes "(station 1 0)" ++ 10 ∷ codes "(run 0 (lam (fn num none) (getn (w 0) (num 65535))))" ++ 10 ∷ []) ≡ done (record { vals = []; depth = 0; tys = Ty·Fn 1 2 ∷ Ty·Num ∷ Ty·Never ∷ []; tms = Term·Lam 0 1 ∷ Term·Get Number (World·Bound 0) 2 ∷ Term·Num 65535 ∷ []; stations = record { gauges = 1; gates = 0 } ∷ []; start = 0 })
-unfolding go
-ex3 = refl
+one-counts : begun-in new-count one ≡ 9 ∷ 11 ∷ 23 ∷ 25 ∷ []
+unfolding digits
+one-counts = refl
 
-ex4 : read (codes "(station 1 0)" ++ 10 ∷ codes "(run 0 (num 65536))") ≡ refused 11 30
-unfolding go
-ex4 = refl
+one-terms : begun-in new-term one ≡ 35 ∷ 43 ∷ 58 ∷ []
+unfolding digits
+one-terms = refl
 
-ex5 : read (codes "(station 1 0)" ++ 10 ∷ codes "(run 0 (lax 65536))") ≡ refused 11 24
-unfolding go
-ex5 = refl
+three-begun : begun-in new-type three ≡ 27 ∷ 31 ∷ 36 ∷ []
+unfolding digits
+three-begun = refl
 
-ex6 : read (codes "(station 1 0)" ++ 10 ∷ codes "(run 0 (num 65535)") ≡ refused 11 32
+-- What is read of texts.
+short-count-refused : read (codes "(station 33") ≡ refused 14 9
 unfolding go
-ex6 = refl
+short-count-refused = refl
 
-ex7 : read (codes "(station 320 0)") ≡ refused 14 9
+count-refused : read (codes "(station 33 0)") ≡ refused 14 9
 unfolding go
-ex7 = refl
+count-refused = refl
 
-ex8 : read (codes "(station 033") ≡ refused 11 10
+digit-refused : read (codes "(station 3x 0)") ≡ refused 11 10
 unfolding go
-ex8 = refl
+digit-refused = refl
 
-ex9 : read (codes "(station 99999") ≡ refused 14 9
+lam-read : read (codes "(station 1 0)" ++ 10 ∷ codes "(run 0 (lam (fn num none) (getn (w 0) (num 65535))))" ++ 10 ∷ []) ≡ done (record { vals = []; depth = 0; tys = Ty·Fn 1 2 ∷ Ty·Num ∷ Ty·Never ∷ []; tms = Term·Lam 0 1 ∷ Term·Get Number (World·Bound 0) 2 ∷ Term·Num 65535 ∷ []; stations = record { gauges = 1; gates = 0 } ∷ []; start = 0 })
 unfolding go
-ex9 = refl
+lam-read = refl
+
+number-refused : read (codes "(station 1 0)" ++ 10 ∷ codes "(run 0 (num 65536))") ≡ refused 11 30
+unfolding go
+number-refused = refl
+
+word-refused : read (codes "(station 1 0)" ++ 10 ∷ codes "(run 0 (lax 65536))") ≡ refused 11 24
+unfolding go
+word-refused = refl
+
+end-refused : read (codes "(station 1 0)" ++ 10 ∷ codes "(run 0 (num 65535)") ≡ refused 11 32
+unfolding go
+end-refused = refl
+
+third-digit-refused : read (codes "(station 320 0)") ≡ refused 14 9
+unfolding go
+third-digit-refused = refl
+
+zero-refused : read (codes "(station 033") ≡ refused 11 10
+unfolding go
+zero-refused = refl
+
+long-count-refused : read (codes "(station 99999") ≡ refused 14 9
+unfolding go
+long-count-refused = refl
 
 program1 : read (codes "(station 1 0)" ++ 10 ∷ codes "(station 0 1)" ++ 10 ∷ codes "(run 1 (gate 0 (getn (site 0) (gauge 0))))" ++ 10 ∷ []) ≡ done (record { vals = []; depth = 0; tys = []; tms = Term·Gate 0 1 ∷ Term·Get Number (World·Site 0) 2 ∷ Term·Gauge 0 ∷ []; stations = record { gauges = 1; gates = 0 } ∷ record { gauges = 0; gates = 1 } ∷ []; start = 1 })
 unfolding go

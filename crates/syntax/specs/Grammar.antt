@@ -18,13 +18,13 @@ use Rattle.syntax.specs.declared.program.Term.{Term}
 use Rattle.syntax.specs.declared.program.Mobile.the-variants.{Code, Address, Number}
 use Rattle.syntax.specs.declared.program.Term.the-variants.{Num as Term·Num, Value as Term·Value, Lam as Term·Lam, App as Term·App, Boxed as Term·Boxed, Unbox as Term·Unbox, Here as Term·Here, Letd as Term·Letd, Get as Term·Get, Pair as Term·Pair, Fst as Term·Fst, Snd as Term·Snd, Letcc as Term·Letcc, Throw as Term·Throw, Go as Term·Go, Gauge as Term·Gauge, Gate as Term·Gate, Below as Term·Below}
 
--- what ends a part: the byte between parts, the byte that ends a form, or the byte that ends a line
+-- What ends a part: the byte between parts, the byte that ends a form, or the byte that ends a line.
 pub data Stop : Type 0 where
   space : Stop
   close : Form → Stop
   line : Stop
 
--- what a text has to go on with
+-- What a text has to go on with.
 pub data Want : Type 0 where
   stop : Stop → Want
   number : Bool → Stop → Want                       -- a number and its stop; true: it counts registers
@@ -32,12 +32,13 @@ pub data Want : Type 0 where
   item : Sort → Want
   word : Sort → List (List ℕ × Form) → Want         -- what is left of the words still possible
 
--- a form's part: a number, or an item of a kind
+-- A part that is a form is a type, a world or a term.
 pub data Kind : Type 0 where
   type : Kind
   world : Kind
   term : Kind
 
+-- A form's part is a number, or a form of a kind.
 pub data Part : Type 0 where
   num : Part
   sub : Kind → Part
@@ -47,7 +48,7 @@ sort-of type = Types
 sort-of world = Worlds
 sort-of term = Terms
 
--- what a form that ends makes: a table's row, a world (site or bound), or a line
+-- What a form that ends makes: a row of a table, a world (0 for a site, 1 for a bound world), or a line.
 pub data Made : Type 0 where
   a-type : Ty → Made
   a-world : ℕ → Made
@@ -55,7 +56,7 @@ pub data Made : Type 0 where
   a-station : ℕ → ℕ → Made
   a-start : ℕ → Made
 
--- the values of a form's parts, the last first; a world has two, its kind and its number
+-- The values of a form's parts stand in a list, the last first; a world has two, its kind and its number.
 abbrev pub nth : ℕ → List ℕ → ℕ
 nth k v = getD v k 0
 
@@ -65,6 +66,7 @@ world-by c n = cond (eqb c 0) (World·Site n) (World·Bound n)
 abbrev pub world-at : ℕ → List ℕ → World
 world-at k v = world-by (nth k v) (nth (k + 1) v)
 
+-- What the grammar says of a form.
 pub record Row : Type 0 where
   pub sort : Sort
   pub spelling : List ℕ      -- the word, up to the first part or the last byte
@@ -74,15 +76,19 @@ pub record Row : Type 0 where
   pub next : List Want       -- what follows a line
   pub make : List ℕ → Made
 
+-- A form in brackets: "(", its name, a space, its parts with spaces between them, ")".
 abbrev bracket : Sort → String → List Part → (List ℕ → Made) → Row
 bracket o w ps m = record { sort = o; spelling = 40 ∷ codes w ++ 32 ∷ []; last = 41; counts = false; parts = ps; next = []; make = m }
 
+-- A type that is a bare word.
 abbrev bare : String → ℕ → Ty → Row
 bare w c t = record { sort = Types; spelling = codes w; last = c; counts = false; parts = []; next = []; make = λ v. a-type t }
 
+-- A line: a form in brackets, with what follows it.
 abbrev heads : String → Bool → List Part → List Want → (List ℕ → Made) → Row
 heads w k ps n m = record { sort = Further; spelling = 40 ∷ codes w ++ 32 ∷ []; last = 41; counts = k; parts = ps; next = n; make = m }
 
+-- The grammar: six types, two worlds, twenty terms and two lines.
 abbrev pub row : Form → Row
 row TNum = bare "nu" 109 Ty·Num
 row TNone = bare "non" 101 Ty·Never
@@ -115,7 +121,7 @@ row Below = bracket Terms "below" (sub type ∷ sub term ∷ sub term ∷ sub te
 row Station = heads "station" true (num ∷ num ∷ []) (stop line ∷ item Further ∷ []) (λ v. a-station (nth 1 v) (nth 0 v))
 row Run = heads "run" false (num ∷ sub term ∷ []) (stop line ∷ []) (λ v. a-start (nth 1 v))
 
--- the forms of a sort: the first line is a station
+-- The forms of a sort; the first line is a station's.
 abbrev pub forms : Sort → List Form
 forms Types = TNum ∷ TNone ∷ TFn ∷ TBox ∷ TAt ∷ TBoth ∷ []
 forms Worlds = Site ∷ Bound ∷ []
@@ -132,26 +138,29 @@ spelling f = row f .spelling
 abbrev pub parts : Form → List Part
 parts f = row f .parts
 
+-- The byte that ends a part.
 abbrev pub byte : Stop → ℕ
 byte space = 32
 byte (close f) = last f
 byte line = 10
 
--- the stop of a part before the parts ps
+-- What ends a part of f that the parts ps follow.
 abbrev pub sep : Form → List Part → Stop
 sep f [] = close f
 sep f (p ∷ ps) = space
 
+-- What is wanted for the parts ps of f, each with what ends it, before ws.
 abbrev pub more : Form → List Part → List Want → List Want
 more f [] ws = ws
 more f (num ∷ ps) ws = number (row f .counts) (sep f ps) ∷ more f ps ws
 more f (sub k ∷ ps) ws = item (sort-of k) ∷ stop (sep f ps) ∷ more f ps ws
 
+-- A form with no parts has only its last byte after its word.
 abbrev pub shut : Form → List Part → List Want → List Want
 shut f [] ws = stop (close f) ∷ ws
 shut f (p ∷ ps) ws = more f (p ∷ ps) ws
 
--- what is wanted after a form's word, where ws was wanted after the form
+-- What is wanted after a form's word, where ws was wanted after the form.
 abbrev pub wants : Form → List Want → List Want
 wants f ws = shut f (parts f) (row f .next ++ ws)
 
@@ -159,11 +168,11 @@ abbrev pub spelled-out : List Form → List (List ℕ × Form)
 spelled-out [] = []
 spelled-out (f ∷ fs) = (spelling f, f) ∷ spelled-out fs
 
--- the words of a sort: none begins another
+-- The words of a sort, of which none begins another.
 abbrev pub words : Sort → List (List ℕ × Form)
 words o = spelled-out (forms o)
 
--- how many values the parts have
+-- How many values a form of the sort is to the form around it.
 abbrev pub cells : Sort → ℕ
 cells Types = 1
 cells Worlds = 2

@@ -1,6 +1,6 @@
--- What holds of every table that is read: its numbers lead to rows that are there, and a part's number is larger than its whole's.
-use mathlib.Core.List.{List}
-use Prim.Native.Nat.{ℕ, zero, suc, _+_, _<_, _≤_}
+-- Sound tables: their numbers lead to rows that are there, a part's number is larger than its whole's, and nothing is high; and how many terms there are in a term.
+use mathlib.Core.List.{List, [], _∷_}
+use Prim.Native.Nat.{ℕ, zero, suc, _+_, _-_, _<_, _≤_}
 use lib.ListN.{length, getD}
 use Rattle.syntax.specs.Trees.{Tables, Each}
 use Rattle.syntax.specs.declared.program.Ty.{Ty}
@@ -67,6 +67,7 @@ Sizes-sound t =
     (0 < length (t .tms)) × (length (t .tms) ≤ 1024) × (length (t .tys) ≤ 512)
     × (0 < length (t .stations)) × (length (t .stations) ≤ 16) × Each (λ h. (h .gauges ≤ 32) × (h .gates ≤ 32)) (t .stations)
 
+-- What holds of every table that is read.
 abbrev pub Sound : Tables → Type 0
 Sound t = Types-sound t × Terms-sound t × Sizes-sound t × Small (t .start)
 
@@ -113,3 +114,33 @@ Term-low tms (suc k) n = Term-parts (λ a. Term-low tms k a) (getD tms n (Term·
 -- No type and no term is more than 64 high.
 abbrev pub Low : Tables → Type 0
 Low t = ((n : ℕ) → n < length (t .tys) → Ty-low (t .tys) 64 n) × ((n : ℕ) → n < length (t .tms) → Term-low (t .tms) 64 n)
+
+-- 1 and what f gives of each part of a term that is a term.
+abbrev pub with-parts : (ℕ → ℕ) → Term → ℕ
+with-parts f (Term·Num n) = 1
+with-parts f (Term·Value n) = 1
+with-parts f (Term·Lam t a) = 1 + f a
+with-parts f (Term·App a b) = 1 + f a + f b
+with-parts f (Term·Boxed a) = 1 + f a
+with-parts f (Term·Unbox a) = 1 + f a
+with-parts f (Term·Here a) = 1 + f a
+with-parts f (Term·Letd a b) = 1 + f a + f b
+with-parts f (Term·Get m w a) = 1 + f a
+with-parts f (Term·Pair a b) = 1 + f a + f b
+with-parts f (Term·Fst a) = 1 + f a
+with-parts f (Term·Snd a) = 1 + f a
+with-parts f (Term·Letcc t a) = 1 + f a
+with-parts f (Term·Throw t n a) = 1 + f a
+with-parts f (Term·Go t w a) = 1 + f a
+with-parts f (Term·Gauge n) = 1
+with-parts f (Term·Gate n a) = 1 + f a
+with-parts f (Term·Below t a b x y) = 1 + f a + f b + f x + f y
+
+-- The size of each term of the rows, of which the first is numbered k.
+abbrev pub sizes : ℕ → List Term → List ℕ
+sizes k [] = []
+sizes k (r ∷ rs) = let ms = sizes (suc k) rs in with-parts (λ c. getD ms (c - suc k) 0) r ∷ ms
+
+-- How many terms there are in the term numbered p, with those of its parts.
+abbrev pub size : List Term → ℕ → ℕ
+size ts p = getD (sizes 0 ts) p 0
