@@ -1,11 +1,17 @@
 -- Judging a term part by part.
 use mathlib.Core.Path.{_≡_, refl, sym, ap, subst, _∙_}
-use mathlib.Core.Bool.{true, false}
-use mathlib.Core.List.{List, [], _∷_, _++_}
-use mathlib.Core.Option.{some}
+use mathlib.Core.Bool.{Bool, true, false, cond}
+use mathlib.Core.List.{List, [], _∷_, _++_, map}
+use mathlib.Core.Option.{some, none as nothing}
 use Prim.Native.Nat.{ℕ, zero, suc, _+_, _-_, _<_, _≤_}
 use native.Mathlib.Omega.{arith}
+use lib.Dec.{ltb, eqb}
 use lib.ListN.{length, getD, take, getElem?, length-append}
+use borrow.Author.Tests.{ltb-true, ltb-false, eqb-true, eqb-false}
+use native.Mathlib.Decide.{decLt}
+use Rattle.std.specs.shelf.Maps.{nth}
+use Rattle.std.proofs.shelf.Maps.{nth-getD}
+use Rattle.std.specs.declared.option.Option.the-variants.{Some, None}
 use Rattle.std.specs.Of.Vec.{vec-items}
 use Rattle.std.specs.Results.{ErrBy}
 use Rattle.std.proofs.shelf.Results.{err-from-errBy}
@@ -21,19 +27,26 @@ use Rattle.syntax.specs.declared.program.Ty.the-variants as Row
 use Rattle.syntax.specs.declared.program.Term.{Term as TermRow}
 use Rattle.syntax.specs.declared.program.Term.the-variants as Term
 use Rattle.syntax.specs.Sound.{Term-sound, Inside}
-use Rattle.calculus.specs.Types.{Ty}
-use Rattle.calculus.specs.Program.{Program, grow-type, AboveType, Sorted}
-use Rattle.calculus.specs.Checker.{Checked, typed, refused, then-type, Judge, judge}
+use Rattle.calculus.specs.Types.{Ty, World, site, bound}
+use Rattle.calculus.specs.Typing.{Known}
+use Rattle.calculus.specs.Program.{Program, grow-type, AboveType, Sorted, type-of, level}
+use Rattle.lines.specs.declared.refusal.CheckFault.the-variants.{Mismatch, BoundWorld, NotOnSheet}
+use Rattle.calculus.specs.Checker.{Checked, typed, refused, then-type, need, when-site, expecting, Judge, judge}
+use Rattle.checker.specs.Comparing.{alike}
 use Rattle.calculus.proofs.Decoding.{judge-recurs}
 use Rattle.checker.specs.declared.context.At.{At}
+use Rattle.checker.specs.declared.context.At.the-variants.{Site, Level}
+use Rattle.checker.specs.declared.context.Bound.{Bound}
+use Rattle.checker.specs.Lookups.{innermost, same-place, Stands, registered}
+use Rattle.checker.proofs.Counts.{level-in, level-out}
 use Rattle.checker.specs.declared.context.Height.{Height}
 use Rattle.checker.specs.declared.context.Context.{Context}
 use Rattle.checker.specs.TypeTable.{meaning, Below, Given, Laid}
 use Rattle.checker.specs.Scopes.{values-of, continuations-of, rows-of, meaning-of, context-of, world-of, Kept}
-use Rattle.checker.specs.Judging.{checked-program, with-parts, size, Sound-terms, Ready, Asks, verdict, row-verdict, Grown, Typed, Judged, Same, Built}
-use Rattle.checker.proofs.Table.{getElem-getD, grow-below, meaning-at}
+use Rattle.checker.specs.Judging.{checked-program, with-parts, size, Sound-terms, Each-below, Ready, Asks, verdict, row-verdict, Grown, Typed, Judged, Fits, Held, Same, Built, held}
+use Rattle.checker.proofs.Table.{getElem-getD, grow-below, meaning-at, meaning-written}
 use Rattle.checker.proofs.Rows.{sound-sorted, size-at}
-use Rattle.checker.proofs.Verdicts.{program-kept, context-kept, ready-kept, keeps, more-rows, longer-length}
+use Rattle.checker.proofs.Verdicts.{program-kept, context-kept, ready-kept, keeps, more-rows, alike-same, alike-goes, unlike-stops, needs-met, needs-unmet}
 
 -- nothing happened yet
 pub same-self : (c : Context) → Same c c
@@ -165,3 +178,129 @@ module _ {c d : Context} {row : TypeRow} {n : ℕ} (r : Ready c) (b : Below (len
   built-is =
       meaning-at (d .written) (rows-of d) (built-grown .laid) n row built-number (ap (λ (x : List TypeRow). getD x n Row.Num) (h .rows) ∙ getD-last (rows-of c) row Row.Num n (h .number))
       ∙ grow-below (meaning-of d) (meaning-of c) (length (rows-of c)) row b (keeps c d 1 r built-grown (h .same))
+
+-- holding a part to a type
+held-yes : (b : Bool) (p : ℕ) (u : Unit {0}) → _≡_ {A = Result (Unit {0}) CheckFault} (cond b (Ok tt) (Err (Mismatch p))) (Ok u) → b ≡ true
+held-yes true p u e = refl
+held-yes false p u e = let z : _≡_ {A = ℕ} 0 1 = cc in absurd (omega arith)
+
+held-no : (b : Bool) (p : ℕ) (f : CheckFault) → _≡_ {A = Result (Unit {0}) CheckFault} (cond b (Ok tt) (Err (Mismatch p))) (Err f) → (b ≡ false) × (f ≡ Mismatch p)
+held-no true p f e = let z : _≡_ {A = ℕ} 0 1 = cc in absurd (omega arith)
+held-no false p f e = (refl, cc)
+
+module _ {c d : Context} {v : Checked} {n more : ℕ} (part : ℕ) (A : Ty) (t : Typed c v n more d) where
+  pub fits : alike (meaning-of d n) A ≡ true → Fits c v A part n more d
+  fits e =
+      let same : meaning-of d n ≡ A = alike-same (meaning-of d n) A e in
+      record {
+          number = t .number;
+          is = same;
+          goes = λ k. ap (λ x. expecting part x A k) (t .verdict) ∙ alike-goes (meaning-of d n) A (Mismatch part) k e;
+          grown = t .grown
+      }
+
+  pub unfit : alike (meaning-of d n) A ≡ false → (k : Checked) → expecting part v A k ≡ refused (Mismatch part)
+  unfit e k = ap (λ x. expecting part x A k) (t .verdict) ∙ unlike-stops (meaning-of d n) A (Mismatch part) k e
+
+  pub held-fits : (B : Ty) (u : Unit {0}) → B ≡ A → held (meaning-of d n) B part ≡ Ok u → Fits c v A part n more d
+  held-fits B u q e = fits (ap (alike (meaning-of d n)) (sym q) ∙ held-yes (alike (meaning-of d n) B) part u e)
+
+  pub held-unfit : (B : Ty) (f : CheckFault) → B ≡ A → held (meaning-of d n) B part ≡ Err f → (k : Checked) → expecting part v A k ≡ refused f
+  held-unfit B f q e k =
+      let p = held-no (alike (meaning-of d n) B) part f e in
+      unfit (ap (alike (meaning-of d n)) (sym q) ∙ p .0) k ∙ ap refused (sym (p .1))
+
+-- a refusal of a held part ends it
+pub stops-held : {c d : Context} {v : Checked} {A : Ty} {part : ℕ} {r : Result ℕ CheckFault} {more : ℕ} (e : CheckFault) → ErrBy r (λ y. y ≡ e) → ((k : Checked) → expecting part v A k ≡ refused e) → Held c v A part r more d
+stops-held {c} {d} {v} {A} {part} {r} {more} e by q =
+    let p = err-from-errBy r by in
+    subst (λ (x : Result ℕ CheckFault). Held c v A part x more d) (sym (p .1 ∙ ap (λ (y : CheckFault). Err y) (p .2))) (record { answer = q })
+
+-- the verdict on a term by its row
+pub by-row : {c d : Context} {terms : List TermRow} {term more : ℕ} {r : Result ℕ CheckFault} → Asks c terms term → (stations : List Station) (row : TermRow) (w : At) → getD terms term (Term.Num 0) ≡ row
+  → Judged c (row-verdict c stations terms term row w) r more d → Judged c (verdict c stations terms term w) r more d
+by-row {c} {d} {terms} {term} {more} {r} a stations row w e j = subst (λ (x : Checked). Judged c x r more d) (sym (row-judged a stations row w e)) j
+
+-- a written type stands for what it stands for in the text
+pub written-is : (c : Context) → Ready c → (stations : List Station) (terms : List TermRow) (t : ℕ) → t < c .written → type-of (checked-program c stations terms) t ≡ meaning-of c t
+written-is c r stations terms t h = sym (meaning-written (c .written) (rows-of c) (r .laid .some) t h)
+
+-- a world that stands is known
+pub stands-known : (stations : List Station) (n : ℕ) (u : World) → Stands (length stations) n u → Known stations n u
+stands-known stations n (site s) h = h
+stands-known stations n (bound k) h = h
+
+-- a register that is fitted goes on
+fitted-goes : (b : Bool) (m n p : ℕ) (u : Unit {0}) (k : Checked) → b ≡ ltb n m → _≡_ {A = Result (Unit {0}) CheckFault} (cond b (Ok tt) (Err (NotOnSheet p))) (Ok u) → need (decLt n m) (NotOnSheet p) k ≡ k
+fitted-goes true m n p u k q e = needs-met (decLt n m) (NotOnSheet p) k (ltb-true n m (sym q))
+fitted-goes false m n p u k q e = let z : _≡_ {A = ℕ} 0 1 = cc in absurd (omega arith)
+
+pub registered-goes : (f : ℕ → ℕ) (w : World) (n p : ℕ) (u : Unit {0}) (k : Checked) → registered f w n p ≡ Ok u → when-site w (BoundWorld p) (λ s. need (decLt n (f s)) (NotOnSheet p) k) ≡ k
+registered-goes f (site s) n p u k e = fitted-goes (ltb n (f s)) (f s) n p u k refl e
+registered-goes f (bound j) n p u k e = let z : _≡_ {A = ℕ} 0 1 = cc in absurd (omega arith)
+
+fitted-stops : (b : Bool) (m n p : ℕ) (r : CheckFault) (k : Checked) → b ≡ ltb n m → _≡_ {A = Result (Unit {0}) CheckFault} (cond b (Ok tt) (Err (NotOnSheet p))) (Err r) → need (decLt n m) (NotOnSheet p) k ≡ refused r
+fitted-stops true m n p r k q e = let z : _≡_ {A = ℕ} 0 1 = cc in absurd (omega arith)
+fitted-stops false m n p r k q e = let l = ltb-false n m (sym q) in needs-unmet (decLt n m) (NotOnSheet p) k (λ h. omega arith) ∙ ap refused (cc)
+
+pub registered-stops : (f : ℕ → ℕ) (w : World) (n p : ℕ) (r : CheckFault) (k : Checked) → registered f w n p ≡ Err r → when-site w (BoundWorld p) (λ s. need (decLt n (f s)) (NotOnSheet p) k) ≡ refused r
+registered-stops f (site s) n p r k e = fitted-stops (ltb n (f s)) (f s) n p r k refl e
+registered-stops f (bound j) n p r k e = ap refused (cc)
+
+-- what is bound, by counts
+getElem-map : (f : Bound → Ty × World) (bs : List Bound) (n : ℕ) (b : Bound) → nth bs n ≡ Some b → getElem? (map f bs) n ≡ some (f b)
+getElem-map f [] n b e = let z : _≡_ {A = ℕ} 0 1 = cc in absurd (omega arith)
+getElem-map f (x ∷ bs) zero b e = let q : x ≡ b = cc in ap (λ y. some (f y)) q
+getElem-map f (x ∷ bs) (suc n) b e = getElem-map f bs n b e
+
+getElem-past : {X : Type 0} (xs : List X) (n : ℕ) → length xs ≤ n → getElem? xs n ≡ nothing
+getElem-past [] n h = refl
+getElem-past (x ∷ xs) zero h = absurd (omega arith)
+getElem-past (x ∷ xs) (suc n) h = getElem-past xs n (omega arith)
+
+length-mapped : (f : Bound → Ty × World) (bs : List Bound) → length (map f bs) ≡ length bs
+length-mapped f [] = refl
+length-mapped f (b ∷ bs) = ap suc (length-mapped f bs)
+
+innermost-in : (b : Bool) (bs : List Bound) (i : ℕ) (x : Bound) → b ≡ ltb i (length bs) → cond b (nth bs (length bs - 1 - i)) None ≡ Some x → (i < length bs) × (nth bs (length bs - 1 - i) ≡ Some x)
+innermost-in true bs i x q e = (ltb-true i (length bs) (sym q), e)
+innermost-in false bs i x q e = let z : _≡_ {A = ℕ} 0 1 = cc in absurd (omega arith)
+
+innermost-out : (b : Bool) (bs : List Bound) (i : ℕ) → b ≡ ltb i (length bs) → cond b (nth bs (length bs - 1 - i)) None ≡ None → length bs ≤ i
+innermost-out true bs i q e =
+    let l = ltb-true i (length bs) (sym q) in
+    let d : Bound = record { ty = 0; world = Site 0 } in
+    let f = nth-getD bs (length bs - 1 - i) d (omega arith) in
+    let z : _≡_ {A = ℕ} 0 1 = cc in absurd (omega arith)
+innermost-out false bs i q e = ltb-false i (length bs) (sym q)
+
+pub looked : (f : Bound → Ty × World) (bs : List Bound) (i : ℕ) (x : Bound) → innermost bs i ≡ Some x → getElem? (map f bs) (level (length (map f bs)) i) ≡ some (f x)
+looked f bs i x e =
+    let p = innermost-in (ltb i (length bs)) bs i x refl e in
+    ap (λ n. getElem? (map f bs) (level n i)) (length-mapped f bs) ∙ ap (getElem? (map f bs)) (level-in (length bs) i (p .0)) ∙ getElem-map f bs (length bs - 1 - i) x (p .1)
+
+pub not-looked : (f : Bound → Ty × World) (bs : List Bound) (i : ℕ) → innermost bs i ≡ None → getElem? (map f bs) (level (length (map f bs)) i) ≡ nothing
+not-looked f bs i e =
+    let l = innermost-out (ltb i (length bs)) bs i refl e in
+    ap (getElem? (map f bs)) (level-out (length (map f bs)) i (omega (arith, length-mapped f bs))) ∙ getElem-past (map f bs) (length (map f bs)) (omega arith)
+
+each-nth : (n k : ℕ) (bs : List Bound) (b : Bound) → Each-below n bs → nth bs k ≡ Some b → b .ty < n
+each-nth n k [] b h e = let z : _≡_ {A = ℕ} 0 1 = cc in absurd (omega arith)
+each-nth n zero (x ∷ bs) b h e = let q : x ≡ b = cc in subst (λ (y : Bound). y .ty < n) q (h .0)
+each-nth n (suc k) (x ∷ bs) b h e = each-nth n k bs b (h .1) e
+
+pub looked-below : (n : ℕ) (bs : List Bound) (i : ℕ) (x : Bound) → Each-below n bs → innermost bs i ≡ Some x → x .ty < n
+looked-below n bs i x h e = each-nth n (length bs - 1 - i) bs x h (innermost-in (ltb i (length bs)) bs i x refl e .1)
+
+-- worlds by their places
+pub place-same : (a b : At) → same-place a b ≡ true → world-of a ≡ world-of b
+place-same (Site s) (Site u) e = ap site (eqb-true s u e)
+place-same (Site s) (Level k) e = let z : _≡_ {A = ℕ} 0 1 = cc in absurd (omega arith)
+place-same (Level k) (Site s) e = let z : _≡_ {A = ℕ} 0 1 = cc in absurd (omega arith)
+place-same (Level j) (Level k) e = ap bound (eqb-true j k e)
+
+pub place-other : (a b : At) → same-place a b ≡ false → world-of a ≡ world-of b → ⊥
+place-other (Site s) (Site u) e q = let n = eqb-false s u e in n (cc)
+place-other (Site s) (Level k) e q = let z : _≡_ {A = ℕ} 0 1 = cc in omega arith
+place-other (Level k) (Site s) e q = let z : _≡_ {A = ℕ} 0 1 = cc in omega arith
+place-other (Level j) (Level k) e q = let n = eqb-false j k e in n (cc)

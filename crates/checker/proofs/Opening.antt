@@ -11,11 +11,17 @@ use Rattle.syntax.specs.declared.program.Mobile.{Mobile}
 use Rattle.syntax.specs.declared.program.Mobile.the-variants.{Code, Address, Number}
 use Rattle.syntax.specs.declared.program.Ty.{Ty as TypeRow}
 use Rattle.syntax.specs.declared.program.Ty.the-variants as Row
-use Rattle.calculus.specs.Types.{Ty, num, none, same-type}
+use Rattle.calculus.specs.Types.{Ty, num, none, fn, box, at, both, same-type}
 use Rattle.calculus.specs.Program.{grow-type}
 use Rattle.calculus.specs.Checker.{Checked, refused, need, when-fn, when-box, when-at, when-both, when-mobile}
 use Rattle.checker.specs.Comparing.{alike}
 use Rattle.checker.specs.Judging.{fn-parts, boxed-part, at-part, both-parts, num-row, never-row, carried-row}
+use Prim.Native.Nat.{_<_}
+use mathlib.Core.List.{List}
+use lib.ListN.{length, getD}
+use Rattle.checker.specs.TypeTable.{meaning, Laid}
+use Rattle.checker.proofs.Table.{meaning-at}
+use Rattle.checker.proofs.Compare.{parts-in}
 use Rattle.checker.proofs.Verdicts.{alike-goes, unlike-stops}
 
 -- a row with these parts is of this form
@@ -132,3 +138,59 @@ carried-stops M Address (Row.Boxed a) e k q = refl
 carried-stops M Address (Row.At a) e k q = let z : _≡_ {A = ℕ} 0 1 = cc in absurd (omega arith)
 carried-stops M Address (Row.Both a b) e k q = refl
 carried-stops M Number r e k q = unlike-stops (grow-type M r) num e k (num-alike M r ∙ q)
+
+-- the same by the number of a type in a table
+module _ (w : ℕ) (rows : List TypeRow) (laid : Laid w rows) (n : ℕ) (h : n < length rows) where
+  abbrev row : TypeRow
+  row = getD rows n Row.Num
+
+  own : meaning w rows n ≡ grow-type (meaning w rows) row
+  own = meaning-at w rows laid n row h refl
+
+  pub fn-goes : (x y : ℕ) → fn-parts row ≡ Some (x, y) → (e : CheckFault) (k : Ty → Ty → Checked) → when-fn (meaning w rows n) e k ≡ k (meaning w rows x) (meaning w rows y)
+  fn-goes x y q e k = ap (λ (A : Ty). when-fn A e k) (meaning-at w rows laid n (Row.Fn x y) h (is-fn row x y q))
+
+  pub fn-stops : fn-parts row ≡ None → (e : CheckFault) (k : Ty → Ty → Checked) → when-fn (meaning w rows n) e k ≡ refused e
+  fn-stops q e k = ap (λ (A : Ty). when-fn A e k) own ∙ no-fn (meaning w rows) row e k q
+
+  pub fn-inside : (x y : ℕ) → fn-parts row ≡ Some (x, y) → (x < w) × (y < length rows)
+  fn-inside x y q = let e = is-fn row x y q in (laid .given n (Row.Fn x y) h e, parts-in w rows laid n (Row.Fn x y) h e .1)
+
+  pub boxed-goes : (x : ℕ) → boxed-part row ≡ Some x → (e : CheckFault) (k : Ty → Checked) → when-box (meaning w rows n) e k ≡ k (meaning w rows x)
+  boxed-goes x q e k = ap (λ (A : Ty). when-box A e k) (meaning-at w rows laid n (Row.Boxed x) h (is-boxed row x q))
+
+  pub boxed-stops : boxed-part row ≡ None → (e : CheckFault) (k : Ty → Checked) → when-box (meaning w rows n) e k ≡ refused e
+  boxed-stops q e k = ap (λ (A : Ty). when-box A e k) own ∙ no-boxed (meaning w rows) row e k q
+
+  pub boxed-inside : (x : ℕ) → boxed-part row ≡ Some x → x < length rows
+  boxed-inside x q = parts-in w rows laid n (Row.Boxed x) h (is-boxed row x q)
+
+  pub at-goes : (x : ℕ) → at-part row ≡ Some x → (e : CheckFault) (k : Ty → Checked) → when-at (meaning w rows n) e k ≡ k (meaning w rows x)
+  at-goes x q e k = ap (λ (A : Ty). when-at A e k) (meaning-at w rows laid n (Row.At x) h (is-at row x q))
+
+  pub at-stops : at-part row ≡ None → (e : CheckFault) (k : Ty → Checked) → when-at (meaning w rows n) e k ≡ refused e
+  at-stops q e k = ap (λ (A : Ty). when-at A e k) own ∙ no-at (meaning w rows) row e k q
+
+  pub at-inside : (x : ℕ) → at-part row ≡ Some x → x < length rows
+  at-inside x q = parts-in w rows laid n (Row.At x) h (is-at row x q)
+
+  pub both-goes : (x y : ℕ) → both-parts row ≡ Some (x, y) → (e : CheckFault) (k : Ty → Ty → Checked) → when-both (meaning w rows n) e k ≡ k (meaning w rows x) (meaning w rows y)
+  both-goes x y q e k = ap (λ (A : Ty). when-both A e k) (meaning-at w rows laid n (Row.Both x y) h (is-both row x y q))
+
+  pub both-stops : both-parts row ≡ None → (e : CheckFault) (k : Ty → Ty → Checked) → when-both (meaning w rows n) e k ≡ refused e
+  both-stops q e k = ap (λ (A : Ty). when-both A e k) own ∙ no-both (meaning w rows) row e k q
+
+  pub both-inside : (x y : ℕ) → both-parts row ≡ Some (x, y) → (x < length rows) × (y < length rows)
+  both-inside x y q = parts-in w rows laid n (Row.Both x y) h (is-both row x y q)
+
+  pub num-is : alike (meaning w rows n) num ≡ num-row row
+  num-is = ap (λ (A : Ty). alike A num) own ∙ num-alike (meaning w rows) row
+
+  pub never-is : alike (meaning w rows n) none ≡ never-row row
+  never-is = ap (λ (A : Ty). alike A none) own ∙ never-alike (meaning w rows) row
+
+  pub mobile-goes : (m : Mobile) (e : CheckFault) (k : Checked) → carried-row m row ≡ true → when-mobile m (meaning w rows n) e k ≡ k
+  mobile-goes m e k q = ap (λ (A : Ty). when-mobile m A e k) own ∙ carried-goes (meaning w rows) m row e k q
+
+  pub mobile-stops : (m : Mobile) (e : CheckFault) (k : Checked) → carried-row m row ≡ false → when-mobile m (meaning w rows n) e k ≡ refused e
+  mobile-stops m e k q = ap (λ (A : Ty). when-mobile m A e k) own ∙ carried-stops (meaning w rows) m row e k q

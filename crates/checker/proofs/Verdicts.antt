@@ -43,7 +43,7 @@ and-both : (a b : Bool) → a && b ≡ true → (a ≡ true) × (b ≡ true)
 and-both true b e = (refl, e)
 and-both false b e = absurd (clash e)
 
-alike-same : (A B : Ty) → alike A B ≡ true → A ≡ B
+pub alike-same : (A B : Ty) → alike A B ≡ true → A ≡ B
 alike-same num num e = refl
 alike-same num none e = absurd (clash e)
 alike-same num (fn C D) e = absurd (clash e)
