@@ -43,7 +43,7 @@ use Rattle.checker.specs.declared.context.Height.{Height}
 use Rattle.checker.specs.declared.context.Context.{Context}
 use Rattle.checker.specs.TypeTable.{meaning, Below, Given, Laid}
 use Rattle.checker.specs.Scopes.{values-of, continuations-of, rows-of, meaning-of, context-of, world-of, Kept}
-use Rattle.checker.specs.Judging.{checked-program, with-parts, size, Sound-terms, Each-below, Ready, Asks, verdict, row-verdict, Grown, Typed, Judged, Fits, Held, Same, Built, held}
+use Rattle.checker.specs.Judging.{checked-program, with-parts, size, Sound-terms, Each-below, Ready, Asks, verdict, row-verdict, Grown, Typed, Answers, Judged, Fits, Held, Same, Built, held}
 use Rattle.checker.proofs.Table.{getElem-getD, grow-below, meaning-at, meaning-written}
 use Rattle.checker.proofs.Rows.{sound-sorted, size-at}
 use Rattle.checker.proofs.Verdicts.{program-kept, context-kept, ready-kept, keeps, more-rows, alike-same, alike-goes, unlike-stops, needs-met, needs-unmet}
@@ -304,3 +304,24 @@ place-other (Site s) (Site u) e q = let n = eqb-false s u e in n (cc)
 place-other (Site s) (Level k) e q = let z : _≡_ {A = ℕ} 0 1 = cc in omega arith
 place-other (Level k) (Site s) e q = let z : _≡_ {A = ℕ} 0 1 = cc in omega arith
 place-other (Level j) (Level k) e q = let n = eqb-false j k e in n (cc)
+
+grown-at : {b e : Context} {n : ℕ} (d : Context) → rows-of b ≡ rows-of d → Grown b n e → Grown d n e
+grown-at {b} {e} {n} d q g =
+    record {
+        laid = g .laid;
+        front = subst (λ (x : List TypeRow). take (length x) (rows-of e) ≡ x) q (g .front);
+        few = omega (arith, g .few, ap length q)
+    }
+
+-- what is judged inside binders that follow a part
+answers-from : (c d b e : Context) (m n more : ℕ) (v u : Checked) (x : Result ℕ CheckFault) → Ready c → Grown c m d → Same c d → rows-of b ≡ rows-of d → u ≡ v → m + n ≤ more → Answers b v x n e → Answers c u x more e
+answers-from c d b e m n more v u (Ok k) r g s q o l a =
+    record {
+        number = a .number;
+        verdict = o ∙ a .verdict;
+        grown = grown-more l (grown-then r g s (grown-at d q (a .grown)))
+    }
+answers-from c d b e m n more v u (Err f) r g s q o l a = o ∙ a
+
+pub judged-from : (c d b : Context) {m n more : ℕ} {v u : Checked} {x : Result ℕ CheckFault} {e : Context} → Ready c → Grown c m d → Same c d → rows-of b ≡ rows-of d → u ≡ v → m + n ≤ more → Judged b v x n e → Judged c u x more e
+judged-from c d b {m} {n} {more} {v} {u} {x} {e} r g s q o l j = record { answer = answers-from c d b e m n more v u x r g s q o l (j .answer) }

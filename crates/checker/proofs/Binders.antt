@@ -18,7 +18,12 @@ use Rattle.checker.specs.declared.context.Height.{Height}
 use Rattle.checker.specs.declared.context.Context.{Context}
 use Rattle.checker.specs.TypeTable.{meaning, Laid}
 use Rattle.checker.specs.Scopes.{values-of, continuations-of, rows-of, meaning-of, context-of, bound-of, around, world-of, Kept, BoundValue, BoundWorld, BoundContinuation}
-use Rattle.checker.specs.Judging.{checked-program, Each-below, Ready, Sound-terms, Asks, Grown, Same}
+use Rattle.std.proofs.shelf.Lists.{take-take}
+use Rattle.std.specs.declared.result.Result.{Result}
+use Rattle.std.specs.declared.result.Result.the-variants.{Ok, Err}
+use Rattle.lines.specs.declared.refusal.CheckFault.{CheckFault}
+use Rattle.calculus.specs.Checker.{Checked, typed}
+use Rattle.checker.specs.Judging.{checked-program, Each-below, Ready, Sound-terms, Asks, Grown, Typed, Answers, Judged, Same, Under}
 
 pub kept-then : {h : Height} {c d e : Context} → Kept h c d → Kept h d e → Kept h c e
 kept-then p q = record { values = q .values ∙ p .values; continuations = q .continuations ∙ p .continuations; written = q .written ∙ p .written }
@@ -45,7 +50,7 @@ map-append f [] b = refl
 map-append f (x ∷ bs) b = ap (λ l. f x ∷ l) (map-append f bs b)
 
 module _ (c d : Context) (rows : rows-of d ≡ rows-of c) (written : d .written ≡ c .written) where
-  same-meaning : meaning-of d ≡ meaning-of c
+  pub same-meaning : meaning-of d ≡ meaning-of c
   same-meaning = ap (λ w. meaning w (rows-of d)) written ∙ ap (λ (x : List TypeRow). meaning (c .written) x) rows
 
   pub same-program : (stations : List Station) (terms : List TermRow) → checked-program d stations terms ≡ checked-program c stations terms
@@ -156,3 +161,42 @@ module _ {c d : Context} {b : Bound} (h : BoundContinuation c d b) where
           worlds = omega (arith, a .worlds, ap (λ (x : Height). x .worlds) (h .height));
           continuations = omega (arith, v, ap (λ (x : Height). x .continuations) (h .height))
       }
+
+-- what is judged stays so where only the height changes
+typed-moved : {c d e : Context} {v : Checked} {n more : ℕ} → rows-of e ≡ rows-of d → e .written ≡ d .written → Typed c v n more d → Typed c v n more e
+typed-moved {c} {d} {e} {v} {n} {more} r w t =
+    record {
+        number = omega (arith, t .number, ap length r);
+        verdict = t .verdict ∙ ap (λ (M : ℕ → Ty). typed (M n)) (sym (same-meaning d e r w));
+        grown = record {
+            laid = same-laid d e r w (t .grown .laid);
+            front = ap (take (length (rows-of c))) r ∙ t .grown .front;
+            few = omega (arith, t .grown .few, ap length r)
+        }
+    }
+
+answers-moved : (c d e : Context) (v : Checked) (x : Result ℕ CheckFault) (more : ℕ) → rows-of e ≡ rows-of d → e .written ≡ d .written → Answers c v x more d → Answers c v x more e
+answers-moved c d e v (Ok n) more r w a = typed-moved r w a
+answers-moved c d e v (Err f) more r w a = a
+
+pub moved : {c d e : Context} {v : Checked} {x : Result ℕ CheckFault} {more : ℕ} → rows-of e ≡ rows-of d → e .written ≡ d .written → Judged c v x more d → Judged c v x more e
+moved {c} {d} {e} {v} {x} {more} r w j = record { answer = answers-moved c d e v x more r w (j .answer) }
+
+pub kept-under : {h k : Height} {c d e : Context} → Kept k c d → Under h k → vec-items (e .values) ≡ vec-items (d .values) → vec-items (e .continuations) ≡ vec-items (d .continuations) → e .written ≡ d .written → Kept h c e
+kept-under {h} {k} {c} {d} {e} p u a b w =
+    let x = u .values in
+    let y = u .continuations in
+    record {
+        values = ap (take (h .values)) a ∙ sym (take-take (h .values) (k .values) (vec-items (d .values)) x) ∙ ap (take (h .values)) (p .values) ∙ take-take (h .values) (k .values) (vec-items (c .values)) x;
+        continuations = ap (take (h .continuations)) b ∙ sym (take-take (h .continuations) (k .continuations) (vec-items (d .continuations)) y) ∙ ap (take (h .continuations)) (p .continuations) ∙ take-take (h .continuations) (k .continuations) (vec-items (c .continuations)) y;
+        written = w ∙ p .written
+    }
+
+-- what is below a binder of worlds is below the binder of values inside it
+pub kept-below : {d e : Context} (c : Context) → d .height ≡ record { values = c .height .values; worlds = c .height .worlds + 1; continuations = c .height .continuations } → Kept (d .height) d e → Kept (c .height) d e
+kept-below {d} {e} c h k =
+    record {
+        values = subst (λ (x : Height). take (x .values) (vec-items (e .values)) ≡ take (x .values) (vec-items (d .values))) h (k .values);
+        continuations = subst (λ (x : Height). take (x .continuations) (vec-items (e .continuations)) ≡ take (x .continuations) (vec-items (d .continuations))) h (k .continuations);
+        written = k .written
+    }
