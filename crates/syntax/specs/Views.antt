@@ -1,0 +1,74 @@
+-- How what the reader holds stands for what the definition of reading has.
+use mathlib.Core.Path.{_≡_}
+use mathlib.Core.List.{List, [], _∷_, _++_}
+use mathlib.Core.Bool.{Bool, true, false, cond}
+use Prim.Native.Nat.{ℕ, _+_, _<_, _≤_, max}
+use lib.Dec.{eqb}
+use lib.ListN.{drop, length, getD}
+use Rattle.std.specs.declared.result.Result.{Result}
+use Rattle.std.specs.declared.result.Result.the-variants.{Ok, Err}
+use Rattle.lines.specs.declared.refusal.TextFault.{TextFault}
+use Rattle.lines.specs.declared.refusal.TextFault.the-variants.{TooLong, Grammar, TooDeep, TooMany, Sheet}
+use Rattle.syntax.specs.Grammar.{Want, words, spelling, spelled-out}
+use Rattle.syntax.specs.Reading.{Seen, Outcome, go, after, many}
+use Rattle.syntax.specs.Reading.Outcome.{done, refused}
+use Rattle.syntax.specs.Texts.{In}
+use Rattle.syntax.specs.declared.grammar.Form.{Form}
+use Rattle.syntax.specs.declared.grammar.Sort.{Sort}
+use Rattle.syntax.specs.declared.cursor.Cursor.{Cursor}
+
+-- the bytes that are still to be read
+abbrev pub rest : Cursor → List ℕ
+rest c = drop (c .place) (c .text .now)
+
+-- how reading goes on from the cursor
+abbrev pub from : Cursor → List Want → Seen → Outcome
+from c ws s = go (rest c) ws s (c .place)
+
+-- the number and the place of a fault
+abbrev pub told : TextFault → Outcome
+told TooLong = refused 10 65536
+told (Grammar p) = refused 11 p
+told (TooDeep p) = refused 12 p
+told (TooMany p) = refused 13 p
+told (Sheet p) = refused 14 p
+
+-- the outcome o goes on as f says, or is the fault
+abbrev pub Led : {X : Type 0} → Result X TextFault → Outcome → (X → Outcome) → Type 0
+Led (Ok x) o f = o ≡ f x
+Led (Err e) o f = o ≡ told e
+
+-- the byte at the cursor, or a text that ends there
+abbrev pub Peeked : Cursor → Result ℕ TextFault → Type 0
+Peeked r (Ok c) = (rest r ≡ c ∷ drop (r .place + 1) (r .text .now)) × (r .place < length (r .text .now))
+Peeked r (Err e) = (rest r ≡ []) × (e ≡ Grammar (r .place))
+
+-- how many bytes of a word a text begins with
+abbrev pub agreed : List ℕ → List ℕ → ℕ
+agreed [] s = 0
+agreed (x ∷ w) [] = 0
+agreed (x ∷ w) (y ∷ s) = cond (eqb y x) (agreed w s + 1) 0
+
+-- the text begins with none of the words
+abbrev pub Misses : List (List ℕ × Form) → List ℕ → Type 0
+Misses [] bs = Unit {0}
+Misses ((w, f) ∷ ks) bs = (agreed w bs < length w) × Misses ks bs
+
+-- how far the words go with the text
+abbrev pub farthest : List (List ℕ × Form) → List ℕ → ℕ
+farthest [] bs = 0
+farthest ((w, f) ∷ ks) bs = max (agreed w bs) (farthest ks bs)
+
+-- the form whose word the text begins with, or how far the words go
+abbrev pub Found : List Form → List ℕ → Result Form ℕ → Type 0
+Found fs bs (Ok f) = In (spelling f) f (spelled-out fs) × (bs ≡ spelling f ++ drop (length (spelling f)) bs) × (length (spelling f) ≤ length bs)
+Found fs bs (Err n) = Misses (spelled-out fs) bs × (n ≡ farthest (spelled-out fs) bs) × (n ≤ length bs)
+
+-- no byte of the words is the one that a full sheet refuses
+abbrev pub Clean : Sort → Seen → List ℕ → Type 0
+Clean o s [] = Unit {0}
+Clean o s (b ∷ w) = (many o b s ≡ false) × Clean o s w
+
+abbrev pub Clear : Sort → Seen → List (List ℕ × Form) → Type 0
+Clear o s [] = Unit {0}
+Clear o s ((w, f) ∷ ks) = Clean o s w × Clear o s ks
