@@ -1,7 +1,7 @@
 -- How what the reader holds stands for what the definition of reading has.
 use mathlib.Core.Path.{_≡_}
 use mathlib.Core.List.{List, [], _∷_, _++_}
-use mathlib.Core.Bool.{Bool, true, false, cond}
+use mathlib.Core.Bool.{Bool, true, false, cond, _||_}
 use Prim.Native.Nat.{ℕ, _+_, _<_, _≤_, max}
 use lib.Dec.{eqb}
 use lib.ListN.{drop, length, getD}
@@ -15,6 +15,9 @@ use Rattle.syntax.specs.Reading.Outcome.{done, refused}
 use Rattle.syntax.specs.Texts.{In}
 use Rattle.syntax.specs.declared.grammar.Form.{Form}
 use Rattle.syntax.specs.declared.grammar.Sort.{Sort}
+use Rattle.syntax.specs.declared.grammar.Sort.the-variants.{Types, Worlds, Terms, First, Further}
+use Rattle.syntax.specs.declared.program.World.{World}
+use Rattle.syntax.specs.declared.program.World.the-variants.{Site, Bound}
 use Rattle.syntax.specs.declared.cursor.Cursor.{Cursor}
 
 -- the bytes that are still to be read
@@ -72,3 +75,20 @@ Clean o s (b ∷ w) = (many o b s ≡ false) × Clean o s w
 abbrev pub Clear : Sort → Seen → List (List ℕ × Form) → Type 0
 Clear o s [] = Unit {0}
 Clear o s ((w, f) ∷ ks) = Clean o s w × Clear o s ks
+
+-- an item of the sort may begin with the byte
+abbrev pub begins-item : Sort → ℕ → Bool
+begins-item Types c = eqb c 40 || eqb c 110
+begins-item Worlds c = eqb c 40
+begins-item Terms c = eqb c 40
+begins-item First c = eqb c 40
+begins-item Further c = eqb c 40
+
+-- a world as two numbers: its kind, and the site or the count
+abbrev pub kind-of : World → ℕ
+kind-of (Site n) = 0
+kind-of (Bound n) = 1
+
+abbrev pub count-of : World → ℕ
+count-of (Site n) = n
+count-of (Bound n) = n

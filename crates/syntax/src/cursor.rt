@@ -10,9 +10,11 @@ ghost use Rattle.syntax.specs.Grammar.Want.{stop as want-stop, number as want-
 ghost use Rattle.syntax.specs.Reading.{Seen, passed, push, digit, opened, full, begun};
 ghost use Rattle.syntax.specs.Reading.Outcome.{refused};
 ghost use Rattle.syntax.specs.Texts.{Apart, In};
-ghost use Rattle.syntax.specs.Views.{rest, from, Led, Peeked, Found, agreed, Clear};
+ghost use Rattle.syntax.specs.Views.{rest, from, Led, Peeked, Found, agreed, Clear, kind-of, count-of};
+ghost use Rattle.syntax.specs.declared.grammar.Sort.the-variants.{Worlds};
 use crate::grammar::Form;
 use crate::grammar::Sort;
+use crate::program::World;
 use lines::refusal::TextFault;
 
 #[derive(Drop)]
@@ -74,4 +76,86 @@ impl Cursor<'_> {
             self.place += 1;
         }
     }
+
+    // An item of the sort begins here, a bracket inside fewer than 64 others.
+    pub(crate) fn first(&self, sort: Sort, depth: usize) -> Result<(), TextFault>
+        ensures led { λ r. ⌜ ((k : List Want) (s : Seen) → s .depth ≡ depth → Led r (from (now (self .entry)) (want-item sort ∷ k) s) (λ _. cond (full sort s) (refused 13 (now (self .entry) .place)) (from (now (self .entry)) (want-word sort (words sort) ∷ k) (begun sort s)))) ⌝ }
+        ensures room { λ r. ⌜ made r (λ _. getD (rest (now (self .entry))) 0 0 ≡ 40 → depth < 64) ⌝ }
+    {
+        let c = self.peek()?;
+        if !sort.begins(c) {
+            return Err(TextFault::Grammar(self.place));
+        }
+        if c == b'(' && depth >= 64 {
+            return Err(TextFault::TooDeep(self.place));
+        }
+        Ok(())
+    }
+
+    // The word of one of the forms.
+    fn pick(&mut self, forms: &[Form]) -> Result<Form, TextFault>
+        ensures led { λ r. ⌜ ((o : Sort) (k : List Want) (s : Seen) → Apart (spelled-out (now (forms .entry))) → Clear o s (spelled-out (now (forms .entry))) → Led r (from (now (self .entry)) (want-word o (spelled-out (now (forms .entry))) ∷ k) s) (λ f. from (now (self .exit)) (wants f k) (opened f s))) ⌝ }
+        ensures picked { λ r. ⌜ made r (λ f. In (spelling f) f (spelled-out (now (forms .entry))) × (last-byte f ≡ 41 → getD (rest (now (self .entry))) 0 0 ≡ 40)) ⌝ }
+    {
+        self.peek()?;
+        match find(forms, &self.text[self.place..]) {
+            Ok(form) => {
+                self.place += form.word().len();
+                Ok(form)
+            }
+            Err(far) => Err(TextFault::Grammar(self.place + far)),
+        }
+    }
+
+    // The word of a form of the sort.
+    pub(crate) fn word(&mut self, sort: Sort) -> Result<Form, TextFault>
+        ensures led { λ r. ⌜ ((k : List Want) (s : Seen) → Clear sort s (words sort) → Led r (from (now (self .entry)) (want-word sort (words sort) ∷ k) s) (λ f. from (now (self .exit)) (wants f k) (opened f s))) ⌝ }
+        ensures picked { λ r. ⌜ made r (λ f. In (spelling f) f (words sort) × (last-byte f ≡ 41 → getD (rest (now (self .entry))) 0 0 ≡ 40)) ⌝ }
+    {
+        self.pick(sort.forms())
+    }
+
+    // A world.
+    pub(crate) fn world(&mut self, depth: usize) -> Result<World, TextFault>
+        ensures { λ r. ⌜ ((k : List Want) (s : Seen) → s .depth ≡ depth → Led r (from (now (self .entry)) (want-item Worlds ∷ k) s) (λ w. from (now (self .exit)) k (push (kind-of w) (push (count-of w) s)))) ⌝ }
+    {
+        self.first(Sort::Worlds, depth)?;
+        let form = self.word(Sort::Worlds)?;
+        let count = self.number(false)?;
+        self.stop(form.last())?;
+        match form {
+            Form::Site => Ok(World::Site(count)),
+            Form::Bound => Ok(World::Bound(count)),
+            _ => unreachable(),
+        }
+    }
+}
+
+// The form whose word the text begins with, or how far the words go with it.
+fn find(forms: &[Form], text: &[u8]) -> Result<Form, usize>
+    ensures { λ r. ⌜ Found (now (forms .entry)) (now (text .entry)) r ⌝ }
+{
+    let mut far = 0;
+    for form in forms {
+        let word = form.word();
+        let n = agree(word, text);
+        if n == word.len() {
+            return Ok(*form);
+        }
+        if n > far {
+            far = n;
+        }
+    }
+    Err(far)
+}
+
+// How many bytes of the word the text begins with.
+fn agree(word: &[u8], text: &[u8]) -> usize
+    ensures { λ r. ⌜ r ≡ agreed (now (word .entry)) (now (text .entry)) ⌝ }
+{
+    let mut n = 0;
+    while n < word.len() && n < text.len() && word[n] == text[n] {
+        n += 1;
+    }
+    n
 }

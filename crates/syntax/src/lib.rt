@@ -1,6 +1,8 @@
 // Program texts: their grammar, their tables, reading and writing.
 mod cursor;
+mod draft;
 pub mod grammar;
 pub mod program;
 mod spelling;
+pub mod table;
 pub mod theorems;

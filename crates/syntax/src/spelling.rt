@@ -1,10 +1,21 @@
 // How each form is spelled.
 ghost use mathlib.Core.Path.{_≡_};
 ghost use Rattle.syntax.specs.Grammar.{last, spelling, forms as sort-forms};
+ghost use Rattle.syntax.specs.Views.{begins-item};
 use crate::grammar::Form;
 use crate::grammar::Sort;
 
 impl Sort {
+    // Whether an item of the sort may begin with the byte.
+    pub(crate) fn begins(self, c: u8) -> bool
+        ensures { λ r. ⌜ r ≡ begins-item self c ⌝ }
+    {
+        match self {
+            Sort::Types => c == b'(' || c == b'n',
+            _ => c == b'(',
+        }
+    }
+
     pub(crate) fn forms(self) -> &'static [Form]
         ensures { λ r. ⌜ now r ≡ sort-forms self ⌝ }
     {

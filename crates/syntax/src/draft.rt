@@ -1,0 +1,53 @@
+// What reading does to the tables.
+ghost use mathlib.Core.Path.{_≡_};
+ghost use lib.ListN.{set};
+ghost use Rattle.syntax.specs.Place.{tables, with-types, with-terms, BegunType, BegunTerm};
+use crate::program::Term;
+use crate::program::Ty;
+use crate::table::Program;
+
+impl Program {
+    // A type begins: it takes the next number.
+    pub(crate) fn begin_type(&mut self) -> Option<u16>
+        ensures { λ r. ⌜ BegunType (tables (now (self .entry))) r (tables (now (self .exit))) ⌝ }
+    {
+        let number = self.types.len();
+        if number >= 512 {
+            return None;
+        }
+        self.types.push_reserved(Ty::Num);
+        Some(number as u16)
+    }
+
+    // A type ends: it is written into its place.
+    pub(crate) fn settle_type(&mut self, number: u16, node: Ty)
+        ensures { λ _. ⌜ tables (now (self .exit)) ≡ with-types (tables (now (self .entry))) (set (tables (now (self .entry)) .types) number node) ⌝ }
+    {
+        let place = usize::from(number);
+        if place < self.types.len() {
+            self.types[place] = node;
+        }
+    }
+
+    // A term begins: it takes the next number.
+    pub(crate) fn begin_term(&mut self) -> Option<u16>
+        ensures { λ r. ⌜ BegunTerm (tables (now (self .entry))) r (tables (now (self .exit))) ⌝ }
+    {
+        let number = self.terms.len();
+        if number >= 1024 {
+            return None;
+        }
+        self.terms.push_reserved(Term::Num(0));
+        Some(number as u16)
+    }
+
+    // A term ends: it is written into its place.
+    pub(crate) fn settle_term(&mut self, number: u16, node: Term)
+        ensures { λ _. ⌜ tables (now (self .exit)) ≡ with-terms (tables (now (self .entry))) (set (tables (now (self .entry)) .terms) number node) ⌝ }
+    {
+        let place = usize::from(number);
+        if place < self.terms.len() {
+            self.terms[place] = node;
+        }
+    }
+}
