@@ -10,7 +10,7 @@ use Rattle.std.specs.declared.result.Result.the-variants.{Ok, Err}
 use Rattle.lines.specs.declared.refusal.TextFault.{TextFault}
 use Rattle.lines.specs.declared.refusal.TextFault.the-variants.{TooLong, Grammar, TooDeep, TooMany, Sheet}
 use Rattle.syntax.specs.Grammar.{Want, words, spelling, spelled-out}
-use Rattle.syntax.specs.Reading.{Seen, Outcome, go, after, many}
+use Rattle.syntax.specs.Reading.{Seen, Outcome, go, after, many, opened}
 use Rattle.syntax.specs.Reading.Outcome.{done, refused}
 use Rattle.syntax.specs.Texts.{In}
 use Rattle.syntax.specs.declared.grammar.Form.{Form}
@@ -18,7 +18,12 @@ use Rattle.syntax.specs.declared.grammar.Sort.{Sort}
 use Rattle.syntax.specs.declared.grammar.Sort.the-variants.{Types, Worlds, Terms, First, Further}
 use Rattle.syntax.specs.declared.program.World.{World}
 use Rattle.syntax.specs.declared.program.World.the-variants.{Site, Bound}
+use Rattle.syntax.specs.declared.program.Ty.{Ty}
+use Rattle.syntax.specs.declared.program.Ty.the-variants.{Num, Never, Fn, Boxed, At, Both}
+use Rattle.syntax.specs.declared.grammar.Form.the-variants.{TNum, TNone, TFn, TBox, TAt, TBoth}
+use Rattle.syntax.specs.Place.{Tables, tables}
 use Rattle.syntax.specs.declared.cursor.Cursor.{Cursor}
+use Rattle.syntax.specs.declared.reader.Reader.{Reader}
 
 -- the bytes that are still to be read
 abbrev pub rest : Cursor → List ℕ
@@ -92,3 +97,32 @@ kind-of (Bound n) = 1
 abbrev pub count-of : World → ℕ
 count-of (Site n) = n
 count-of (Bound n) = n
+
+-- what was read so far, over the tables; the values of open forms and the depth stand beside them
+abbrev pub seen : Tables → List ℕ → ℕ → Seen
+seen t vs d = record { vals = vs; depth = d; tys = t .types; tms = t .terms; stations = t .stations; start = t .start }
+
+-- how reading goes on from the reader
+abbrev pub at : Reader → List Want → List ℕ → ℕ → Outcome
+at r ws vs d = from (r .cursor) ws (seen (tables (r .draft .now)) vs d)
+
+-- how it goes on with a form's bracket open
+abbrev pub inside : Reader → Form → List Want → List ℕ → ℕ → Outcome
+inside r f ws vs d = from (r .cursor) ws (opened f (seen (tables (r .draft .now)) vs d))
+
+-- a type's form, and its parts, the last first
+abbrev pub type-form : Ty → Form
+type-form Num = TNum
+type-form Never = TNone
+type-form (Fn a b) = TFn
+type-form (Boxed a) = TBox
+type-form (At a) = TAt
+type-form (Both a b) = TBoth
+
+abbrev pub type-parts : Ty → List ℕ
+type-parts Num = []
+type-parts Never = []
+type-parts (Fn a b) = b ∷ a ∷ []
+type-parts (Boxed a) = a ∷ []
+type-parts (At a) = a ∷ []
+type-parts (Both a b) = b ∷ a ∷ []

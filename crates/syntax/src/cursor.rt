@@ -78,9 +78,9 @@ impl Cursor<'_> {
     }
 
     // An item of the sort begins here, a bracket inside fewer than 64 others.
-    pub(crate) fn first(&self, sort: Sort, depth: usize) -> Result<(), TextFault>
-        ensures led { λ r. ⌜ ((k : List Want) (s : Seen) → s .depth ≡ depth → Led r (from (now (self .entry)) (want-item sort ∷ k) s) (λ _. cond (full sort s) (refused 13 (now (self .entry) .place)) (from (now (self .entry)) (want-word sort (words sort) ∷ k) (begun sort s)))) ⌝ }
-        ensures room { λ r. ⌜ made r (λ _. getD (rest (now (self .entry))) 0 0 ≡ 40 → depth < 64) ⌝ }
+    pub(crate) fn first(&mut self, sort: Sort, depth: usize) -> Result<(), TextFault>
+        ensures led { λ r. ⌜ ((k : List Want) (s : Seen) → s .depth ≡ depth → Led r (from (now (self .entry)) (want-item sort ∷ k) s) (λ _. cond (full sort s) (refused 13 (now (self .entry) .place)) (from (now (self .exit)) (want-word sort (words sort) ∷ k) (begun sort s)))) ⌝ }
+        ensures room { λ r. ⌜ made r (λ _. getD (rest (now (self .exit))) 0 0 ≡ 40 → depth < 64) ⌝ }
     {
         let c = self.peek()?;
         if !sort.begins(c) {

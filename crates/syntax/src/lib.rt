@@ -3,6 +3,7 @@ mod cursor;
 mod draft;
 pub mod grammar;
 pub mod program;
+mod reader;
 mod spelling;
 pub mod table;
 pub mod theorems;
