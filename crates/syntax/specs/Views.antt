@@ -21,6 +21,11 @@ use Rattle.syntax.specs.declared.program.World.the-variants.{Site, Bound}
 use Rattle.syntax.specs.declared.program.Ty.{Ty}
 use Rattle.syntax.specs.declared.program.Ty.the-variants.{Num, Never, Fn, Boxed, At, Both}
 use Rattle.syntax.specs.declared.grammar.Form.the-variants.{TNum, TNone, TFn, TBox, TAt, TBoth}
+use Rattle.syntax.specs.declared.grammar.Form.the-variants.{Val, Getb, Getd, Getn, Num as Form·Num, Lam as Form·Lam, App as Form·App, Boxed as Form·Boxed, Unbox as Form·Unbox, Here as Form·Here, Letd as Form·Letd, Pair as Form·Pair, Fst as Form·Fst, Snd as Form·Snd, Letcc as Form·Letcc, Throw as Form·Throw, Go as Form·Go, Gauge as Form·Gauge, Gate as Form·Gate, Below as Form·Below}
+use Rattle.syntax.specs.declared.program.Mobile.{Mobile}
+use Rattle.syntax.specs.declared.program.Mobile.the-variants.{Code, Address, Number}
+use Rattle.syntax.specs.declared.program.Term.{Term}
+use Rattle.syntax.specs.declared.program.Term.the-variants.{Value, Lam, App, Unbox, Here, Letd, Get, Pair, Fst, Snd, Letcc, Throw, Go, Gauge, Gate, Below, Num as Term·Num, Boxed as Term·Boxed}
 use Rattle.syntax.specs.Place.{Tables, tables}
 use Rattle.syntax.specs.declared.cursor.Cursor.{Cursor}
 use Rattle.syntax.specs.declared.reader.Reader.{Reader}
@@ -126,3 +131,49 @@ type-parts (Fn a b) = b ∷ a ∷ []
 type-parts (Boxed a) = a ∷ []
 type-parts (At a) = a ∷ []
 type-parts (Both a b) = b ∷ a ∷ []
+
+-- a term's form, and its parts, the last first
+abbrev pub get-form : Mobile → Form
+get-form Code = Getb
+get-form Address = Getd
+get-form Number = Getn
+
+abbrev pub term-form : Term → Form
+term-form (Term·Num n) = Form·Num
+term-form (Value n) = Val
+term-form (Lam t b) = Form·Lam
+term-form (App f a) = Form·App
+term-form (Term·Boxed a) = Form·Boxed
+term-form (Unbox a) = Form·Unbox
+term-form (Here a) = Form·Here
+term-form (Letd a b) = Form·Letd
+term-form (Get m w a) = get-form m
+term-form (Pair a b) = Form·Pair
+term-form (Fst a) = Form·Fst
+term-form (Snd a) = Form·Snd
+term-form (Letcc t b) = Form·Letcc
+term-form (Throw t c a) = Form·Throw
+term-form (Go t w a) = Form·Go
+term-form (Gauge n) = Form·Gauge
+term-form (Gate n a) = Form·Gate
+term-form (Below t a b l o) = Form·Below
+
+abbrev pub term-parts : Term → List ℕ
+term-parts (Term·Num n) = n ∷ []
+term-parts (Value n) = n ∷ []
+term-parts (Lam t b) = b ∷ t ∷ []
+term-parts (App f a) = a ∷ f ∷ []
+term-parts (Term·Boxed a) = a ∷ []
+term-parts (Unbox a) = a ∷ []
+term-parts (Here a) = a ∷ []
+term-parts (Letd a b) = b ∷ a ∷ []
+term-parts (Get m w a) = a ∷ kind-of w ∷ count-of w ∷ []
+term-parts (Pair a b) = b ∷ a ∷ []
+term-parts (Fst a) = a ∷ []
+term-parts (Snd a) = a ∷ []
+term-parts (Letcc t b) = b ∷ t ∷ []
+term-parts (Throw t c a) = a ∷ c ∷ t ∷ []
+term-parts (Go t w a) = a ∷ kind-of w ∷ count-of w ∷ t ∷ []
+term-parts (Gauge n) = n ∷ []
+term-parts (Gate n a) = a ∷ n ∷ []
+term-parts (Below t a b l o) = o ∷ l ∷ b ∷ a ∷ t ∷ []
