@@ -7,6 +7,7 @@ use Rattle.std.specs.Of.Vec.{vec-items}
 use Rattle.std.specs.declared.option.Option.{Option}
 use Rattle.std.specs.declared.option.Option.the-variants.{Some, None}
 use Rattle.instruments.specs.declared.sheet.Station.{Station}
+use Rattle.instruments.specs.Sheets.{stations-of}
 use Rattle.syntax.specs.declared.program.Ty.{Ty}
 use Rattle.syntax.specs.declared.program.Ty.the-variants.{Num as Ty·Num}
 use Rattle.syntax.specs.declared.program.Term.{Term}
@@ -21,13 +22,19 @@ pub record Tables : Type 0 where
   pub start : ℕ
 
 abbrev pub tables : Program → Tables
-tables p = record { types = vec-items (p .types); terms = vec-items (p .terms); stations = vec-items (p .stations); start = p .start }
+tables p = record { types = vec-items (p .types); terms = vec-items (p .terms); stations = stations-of (p .sheet); start = p .start }
 
 abbrev pub with-types : Tables → List Ty → Tables
 with-types t l = record { types = l; terms = t .terms; stations = t .stations; start = t .start }
 
 abbrev pub with-terms : Tables → List Term → Tables
 with-terms t l = record { types = t .types; terms = l; stations = t .stations; start = t .start }
+
+abbrev pub with-stations : Tables → List Station → Tables
+with-stations t l = record { types = t .types; terms = t .terms; stations = l; start = t .start }
+
+abbrev pub with-start : Tables → ℕ → Tables
+with-start t n = record { types = t .types; terms = t .terms; stations = t .stations; start = n }
 
 -- a type takes the next number, if there is one
 abbrev pub BegunType : Tables → Option ℕ → Tables → Type 0

@@ -21,7 +21,7 @@ use Rattle.syntax.specs.declared.program.World.the-variants.{Site, Bound}
 use Rattle.syntax.specs.declared.program.Ty.{Ty}
 use Rattle.syntax.specs.declared.program.Ty.the-variants.{Num, Never, Fn, Boxed, At, Both}
 use Rattle.syntax.specs.declared.grammar.Form.the-variants.{TNum, TNone, TFn, TBox, TAt, TBoth}
-use Rattle.syntax.specs.declared.grammar.Form.the-variants.{Val, Getb, Getd, Getn, Num as Form·Num, Lam as Form·Lam, App as Form·App, Boxed as Form·Boxed, Unbox as Form·Unbox, Here as Form·Here, Letd as Form·Letd, Pair as Form·Pair, Fst as Form·Fst, Snd as Form·Snd, Letcc as Form·Letcc, Throw as Form·Throw, Go as Form·Go, Gauge as Form·Gauge, Gate as Form·Gate, Below as Form·Below}
+use Rattle.syntax.specs.declared.grammar.Form.the-variants.{Station, Run, Val, Getb, Getd, Getn, Num as Form·Num, Lam as Form·Lam, App as Form·App, Boxed as Form·Boxed, Unbox as Form·Unbox, Here as Form·Here, Letd as Form·Letd, Pair as Form·Pair, Fst as Form·Fst, Snd as Form·Snd, Letcc as Form·Letcc, Throw as Form·Throw, Go as Form·Go, Gauge as Form·Gauge, Gate as Form·Gate, Below as Form·Below}
 use Rattle.syntax.specs.declared.program.Mobile.{Mobile}
 use Rattle.syntax.specs.declared.program.Mobile.the-variants.{Code, Address, Number}
 use Rattle.syntax.specs.declared.program.Term.{Term}
@@ -177,3 +177,8 @@ term-parts (Go t w a) = a ∷ kind-of w ∷ count-of w ∷ t ∷ []
 term-parts (Gauge n) = n ∷ []
 term-parts (Gate n a) = a ∷ n ∷ []
 term-parts (Below t a b l o) = o ∷ l ∷ b ∷ a ∷ t ∷ []
+
+-- a station's line, or else the run line
+abbrev pub line-form : Bool → Form
+line-form true = Station
+line-form false = Run

@@ -1,17 +1,18 @@
 // A place in a text, and what is taken from there: bytes, numbers and words.
 ghost use mathlib.Core.Path.{_≡_};
-ghost use mathlib.Core.Bool.{false, cond};
-ghost use mathlib.Core.List.{List, _∷_, _++_};
+ghost use mathlib.Core.Bool.{true, false, cond};
+ghost use mathlib.Core.List.{List, [], _∷_, _++_};
 ghost use Prim.Native.Nat.{ℕ, _+_, _<_, _≤_};
 ghost use lib.ListN.{length, getD};
 ghost use Rattle.std.specs.Vec.{made};
 ghost use Rattle.syntax.specs.Grammar.{Want, Stop, byte, words, wants, last as last-byte, spelling, spelled-out};
 ghost use Rattle.syntax.specs.Grammar.Want.{stop as want-stop, number as want-number, item as want-item, word as want-word};
 ghost use Rattle.syntax.specs.Reading.{Seen, passed, push, digit, opened, full, begun};
-ghost use Rattle.syntax.specs.Reading.Outcome.{refused};
+ghost use Rattle.syntax.specs.Reading.Outcome.{done, refused};
 ghost use Rattle.syntax.specs.Texts.{Apart, In};
 ghost use Rattle.syntax.specs.Views.{rest, from, Led, Peeked, Found, agreed, Clear, kind-of, count-of};
-ghost use Rattle.syntax.specs.declared.grammar.Sort.the-variants.{Worlds};
+ghost use Rattle.syntax.specs.declared.grammar.Sort.the-variants.{Worlds, Further};
+ghost use Rattle.syntax.specs.declared.grammar.Form.the-variants.{Run};
 use crate::grammar::Form;
 use crate::grammar::Sort;
 use crate::program::World;
@@ -49,7 +50,8 @@ impl Cursor<'_> {
 
     // A number with no leading zero, at most 65,535; a count of registers is at most 32.
     pub(crate) fn number(&mut self, counts: bool) -> Result<u16, TextFault>
-        ensures { λ r. ⌜ ((a : Stop) (k : List Want) (s : Seen) → digit (byte a) ≡ false → Led r (from (now (self .entry)) (want-number counts a ∷ k) s) (λ v. from (now (self .exit)) (want-stop a ∷ k) (push v s))) ⌝ }
+        ensures few { λ r. ⌜ made r (λ v. counts ≡ true → v ≤ 32) ⌝ }
+        ensures led { λ r. ⌜ ((a : Stop) (k : List Want) (s : Seen) → digit (byte a) ≡ false → Led r (from (now (self .entry)) (want-number counts a ∷ k) s) (λ v. from (now (self .exit)) (want-stop a ∷ k) (push v s))) ⌝ }
     {
         let start = self.place;
         let c = self.peek()?;
@@ -113,6 +115,28 @@ impl Cursor<'_> {
         ensures picked { λ r. ⌜ made r (λ f. In (spelling f) f (words sort) × (last-byte f ≡ 41 → getD (rest (now (self .entry))) 0 0 ≡ 40)) ⌝ }
     {
         self.pick(sort.forms())
+    }
+
+    // The word of the run line, on a full sheet: a station line is one too many.
+    pub(crate) fn last_line(&mut self) -> Result<(), TextFault>
+        ensures { λ r. ⌜ ((k : List Want) (s : Seen) → 16 ≤ length (s .stations) → Led r (from (now (self .entry)) (want-word Further (words Further) ∷ k) s) (λ _. from (now (self .exit)) (wants Run k) (opened Run s))) ⌝ }
+    {
+        self.peek()?;
+        if agree(b"(s", &self.text[self.place..]) == 2 {
+            return Err(TextFault::Sheet(self.place));
+        }
+        self.pick(&[Form::Run])?;
+        Ok(())
+    }
+
+    // No byte is left.
+    pub(crate) fn end(&mut self) -> Result<(), TextFault>
+        ensures { λ r. ⌜ ((s : Seen) → Led r (from (now (self .entry)) [] s) (λ _. done s)) ⌝ }
+    {
+        if self.place < self.text.len() {
+            return Err(TextFault::Grammar(self.place));
+        }
+        Ok(())
     }
 
     // A world.

@@ -1,10 +1,13 @@
 // What reading does to the tables.
 ghost use mathlib.Core.Path.{_≡_};
-ghost use lib.ListN.{set};
-ghost use Rattle.syntax.specs.Place.{tables, with-types, with-terms, BegunType, BegunTerm};
+ghost use mathlib.Core.List.{_∷_, [], _++_};
+ghost use Prim.Native.Nat.{_<_, _≤_};
+ghost use lib.ListN.{length, set};
+ghost use Rattle.syntax.specs.Place.{tables, with-types, with-terms, with-stations, BegunType, BegunTerm};
 use crate::program::Term;
 use crate::program::Ty;
 use crate::table::Program;
+use instruments::sheet::Station;
 
 impl Program {
     // A type begins: it takes the next number.
@@ -49,5 +52,17 @@ impl Program {
         if place < self.terms.len() {
             self.terms[place] = node;
         }
+    }
+
+    // A station line ends: its counts go onto the sheet.
+    pub(crate) fn add_station(&mut self, gauges: u16, gates: u16)
+        requires gauges { ⌜ gauges ≤ 32 ⌝ }
+        requires gates { ⌜ gates ≤ 32 ⌝ }
+        requires room { ⌜ length (tables (now self) .stations) < 16 ⌝ }
+        ensures { λ _. ⌜ tables (now (self .exit)) ≡ with-stations (tables (now (self .entry))) (tables (now (self .entry)) .stations ++ record { gauges = gauges; gates = gates } ∷ []) ⌝ }
+    {
+        let gauges = gauges as u8;
+        let gates = gates as u8;
+        self.sheet.add(Station { gauges, gates });
     }
 }

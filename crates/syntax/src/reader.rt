@@ -1,16 +1,19 @@
 // Reads a text into tables.
 ghost use mathlib.Core.Path.{_≡_};
-ghost use mathlib.Core.Bool.{false};
-ghost use mathlib.Core.List.{List, _∷_, _++_};
+ghost use mathlib.Core.Bool.{true, false};
+ghost use mathlib.Core.List.{List, [], _∷_, _++_};
 ghost use Prim.Native.Nat.{ℕ, _+_, _<_, _≤_};
+ghost use lib.ListN.{length};
 ghost use Rattle.std.specs.Vec.{made};
 ghost use Rattle.syntax.specs.Grammar.{Want, words, wants, last as last-byte, spelling};
 ghost use Rattle.syntax.specs.Grammar.Stop.{close, space};
 ghost use Rattle.syntax.specs.Grammar.Want.{stop as want-stop, number as want-number, item as want-item};
+ghost use Rattle.syntax.specs.Reading.Outcome.{done};
 ghost use Rattle.syntax.specs.Texts.{In};
-ghost use Rattle.syntax.specs.Views.{Led, at, inside, type-form, type-parts, term-form, term-parts, get-form, kind-of, count-of};
-ghost use Rattle.syntax.specs.declared.grammar.Form.the-variants.{Throw, Go, Below};
-ghost use Rattle.syntax.specs.declared.grammar.Sort.the-variants.{Types, Terms, Worlds};
+ghost use Rattle.syntax.specs.Views.{Led, at, inside, seen, type-form, type-parts, term-form, term-parts, get-form, kind-of, count-of, line-form};
+ghost use Rattle.syntax.specs.Place.{tables};
+ghost use Rattle.syntax.specs.declared.grammar.Form.the-variants.{Throw, Go, Below, Station, Run};
+ghost use Rattle.syntax.specs.declared.grammar.Sort.the-variants.{Types, Terms, Worlds, First, Further};
 use crate::cursor::Cursor;
 use crate::grammar::Form;
 use crate::grammar::Sort;
@@ -244,5 +247,73 @@ impl Reader<'_, '_> {
         self.cursor.stop(form.last())?;
         self.draft.settle_term(number, node);
         Ok(number)
+    }
+
+    // The first line is a station's.
+    fn first_line(&mut self) -> Result<(), TextFault>
+        ensures led { λ r. ⌜ ((k : List Want) (vs : List ℕ) → Led r (at (now (self .entry)) (want-item First ∷ k) vs 0) (λ _. inside (now (self .exit)) Station (wants Station k) vs 0)) ⌝ }
+        ensures same { λ _. ⌜ tables (now (self .exit) .draft .now) ≡ tables (now (self .entry) .draft .now) ⌝ }
+    {
+        self.cursor.first(Sort::First, 0)?;
+        self.cursor.word(Sort::First)?;
+        Ok(())
+    }
+
+    // A further line begins: a station's, or else the run line.
+    fn further_line(&mut self) -> Result<bool, TextFault>
+        ensures led { λ r. ⌜ ((k : List Want) (vs : List ℕ) → Led r (at (now (self .entry)) (want-item Further ∷ k) vs 0) (λ b. inside (now (self .exit)) (line-form b) (wants (line-form b) k) vs 0)) ⌝ }
+        ensures room { λ r. ⌜ made r (λ b. b ≡ true → length (tables (now (self .exit) .draft .now) .stations) < 16) ⌝ }
+    {
+        self.cursor.first(Sort::Further, 0)?;
+        let sheet = self.draft.sheet;
+        if sheet.len() >= 16 {
+            self.cursor.last_line()?;
+            return Ok(false);
+        }
+        match self.cursor.word(Sort::Further)? {
+            Form::Station => Ok(true),
+            Form::Run => Ok(false),
+            _ => unreachable(),
+        }
+    }
+
+    // The counts of a station, up to the end of its line.
+    fn station(&mut self) -> Result<(), TextFault>
+        requires { ⌜ length (tables (now self .draft .now) .stations) < 16 ⌝ }
+        ensures led { λ r. ⌜ ((k : List Want) (vs : List ℕ) → Led r (inside (now (self .entry)) Station (wants Station k) vs 0) (λ _. at (now (self .exit)) (want-item Further ∷ k) vs 0)) ⌝ }
+        ensures more { λ r. ⌜ made r (λ _. length (tables (now (self .exit) .draft .now) .stations) ≡ length (tables (now (self .entry) .draft .now) .stations) + 1) ⌝ }
+    {
+        let gauges = self.cursor.number(true)?;
+        self.cursor.stop(b' ')?;
+        let gates = self.cursor.number(true)?;
+        self.cursor.stop(b')')?;
+        self.cursor.stop(b'\n')?;
+        self.draft.add_station(gauges, gates);
+        Ok(())
+    }
+
+    // The site and the term of the run line, up to its end.
+    fn run(&mut self) -> Result<(), TextFault>
+        ensures { λ r. ⌜ ((k : List Want) (vs : List ℕ) → Led r (inside (now (self .entry)) Run (wants Run k) vs 0) (λ _. at (now (self .exit)) k vs 0)) ⌝ }
+    {
+        let (site, _) = self.number_and_term(1)?;
+        self.cursor.stop(b')')?;
+        self.cursor.stop(b'\n')?;
+        self.draft.start = site;
+        Ok(())
+    }
+
+    // A whole text: a station line, further lines of which the last is the run line, and no more.
+    pub(crate) fn text(&mut self) -> Result<(), TextFault>
+        requires { ⌜ length (tables (now self .draft .now) .stations) < 16 ⌝ }
+        ensures { λ r. ⌜ Led r (at (now (self .entry)) (want-item First ∷ []) [] 0) (λ _. done (seen (tables (now (self .exit) .draft .now)) [] 0)) ⌝ }
+    {
+        self.first_line()?;
+        self.station()?;
+        while self.further_line()? {
+            self.station()?;
+        }
+        self.run()?;
+        self.cursor.end()
     }
 }

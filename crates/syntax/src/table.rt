@@ -3,13 +3,13 @@ ghost use Prim.Native.Nat.{_≤_};
 ghost use Rattle.std.specs.Of.Vec.{vec-cap};
 use crate::program::Term;
 use crate::program::Ty;
-use instruments::sheet::Station;
+use instruments::sheet::Sheet;
 
 #[derive(Drop)]
 pub struct Program {
     pub(crate) types: Vec<Ty>,
     pub(crate) terms: Vec<Term>,
-    pub(crate) stations: Vec<Station>,
+    pub(crate) sheet: Sheet,
     pub(crate) start: u16,
     ghost room: { (512 ≤ vec-cap types) × (1024 ≤ vec-cap terms) },
 }
