@@ -263,6 +263,7 @@ impl Reader<'_, '_> {
     fn further_line(&mut self) -> Result<bool, TextFault>
         ensures led { λ r. ⌜ ((k : List Want) (vs : List ℕ) → Led r (at (now (self .entry)) (want-item Further ∷ k) vs 0) (λ b. inside (now (self .exit)) (line-form b) (wants (line-form b) k) vs 0)) ⌝ }
         ensures room { λ r. ⌜ made r (λ b. b ≡ true → length (tables (now (self .exit) .draft .now) .stations) < 16) ⌝ }
+        ensures same { λ _. ⌜ tables (now (self .exit) .draft .now) ≡ tables (now (self .entry) .draft .now) ⌝ }
     {
         self.cursor.first(Sort::Further, 0)?;
         let sheet = self.draft.sheet;

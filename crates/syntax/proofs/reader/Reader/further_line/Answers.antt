@@ -12,12 +12,14 @@ use Rattle.syntax.proofs.reader.Reader.further_line.Needs as need
 pub returns-in-Break-last-line : need.returns-in-Break-last-line
 returns-in-Break-last-line c = record {
   led = λ k vs. exit _ _ (c .from-residual-in-Break-last-line .ensures .1) _ _ (c .in-Continue-first .ensures tt .led k _ refl ∙ c .in-Break-last-line .ensures tt k _ (omega (arith, c .len .ensures .value)));
-  room = made-from-err _ _ (c .from-residual-in-Break-last-line .ensures .0) }
+  room = made-from-err _ _ (c .from-residual-in-Break-last-line .ensures .0);
+  same = refl }
 
 pub returns-then-len-ge16 : need.returns-then-len-ge16
 returns-then-len-ge16 c = record {
   led = λ k vs. c .in-Continue-first .ensures tt .led k _ refl ∙ c .in-Continue-last-line .ensures tt k _ (omega (arith, c .len .ensures .value));
-  room = λ e. absurd (both-ways false refl e) }
+  room = λ e. absurd (both-ways false refl e);
+  same = refl }
 
 pub unreachable-requires : need.unreachable-requires
 unreachable-requires c κs = not-none _ _ (forms Further) (c .in-Continue-word .ensures tt .picked .0) (c .in-rest .not-Station, (c .in-rest .not-Run, tt))
