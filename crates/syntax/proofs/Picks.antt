@@ -11,7 +11,7 @@ use Rattle.syntax.specs.Reading.{Seen, Outcome, many, push, passed, opened}
 use Rattle.syntax.specs.Texts.{In}
 use Rattle.syntax.specs.Texts.In.{here, there}
 use Rattle.syntax.specs.Views.{Clean, Clear, from}
-use Rattle.syntax.specs.declared.cursor.Cursor.{Cursor}
+use Rattle.syntax.specs.declared.reader.Reader.{Reader}
 use Rattle.syntax.specs.declared.grammar.Form.{Form}
 use Rattle.syntax.specs.declared.grammar.Form.the-variants.{Site, Bound}
 use Rattle.syntax.specs.declared.grammar.Sort.{Sort}
@@ -51,7 +51,7 @@ back d = omega arith
 world-open : (w : List ℕ) (f : Form) → In w f (words Worlds) → (k : List Want) → wants f k ≡ number false (close f) ∷ k
 world-open w f m k = in-all (λ (g : Form). wants g k ≡ number false (close g) ∷ k) w f (forms Worlds) m (refl, (refl, tt))
 
-pub world-names : (o : Outcome) (c : Cursor) (w : List ℕ) (f : Form) (k : List Want) (s : Seen) → In w f (words Worlds) → o ≡ from c (wants f k) s → o ≡ from c (number false (close f) ∷ k) s
+pub world-names : (o : Outcome) (c : Reader) (w : List ℕ) (f : Form) (k : List Want) (s : Seen) → In w f (words Worlds) → o ≡ from c (wants f k) s → o ≡ from c (number false (close f) ∷ k) s
 world-names o c w f k s m e = e ∙ ap (λ (ws : List Want). from c ws s) (world-open w f m k)
 
 pub site-shut : (f : Form) (n : ℕ) (s : Seen) → f ≡ Site → passed (close f) (push n (opened f s)) ≡ push 0 (push n s)

@@ -26,16 +26,16 @@ use Rattle.syntax.specs.declared.program.Mobile.{Mobile}
 use Rattle.syntax.specs.declared.program.Mobile.the-variants.{Code, Address, Number}
 use Rattle.syntax.specs.declared.program.Term.{Term}
 use Rattle.syntax.specs.declared.program.Term.the-variants.{Value, Lam, App, Unbox, Here, Letd, Get, Pair, Fst, Snd, Letcc, Throw, Go, Gauge, Gate, Below, Num as Term·Num, Boxed as Term·Boxed}
+use Rattle.syntax.specs.declared.table.Program.{Program}
 use Rattle.syntax.specs.Place.{Tables, tables}
-use Rattle.syntax.specs.declared.cursor.Cursor.{Cursor}
 use Rattle.syntax.specs.declared.reader.Reader.{Reader}
 
 -- the bytes that are still to be read
-abbrev pub rest : Cursor → List ℕ
+abbrev pub rest : Reader → List ℕ
 rest c = drop (c .place) (c .text .now)
 
--- how reading goes on from the cursor
-abbrev pub from : Cursor → List Want → Seen → Outcome
+-- how reading goes on from the reader's place
+abbrev pub from : Reader → List Want → Seen → Outcome
 from c ws s = go (rest c) ws s (c .place)
 
 -- the number and the place of a fault
@@ -51,8 +51,8 @@ abbrev pub Led : {X : Type 0} → Result X TextFault → Outcome → (X → Outc
 Led (Ok x) o f = o ≡ f x
 Led (Err e) o f = o ≡ told e
 
--- the byte at the cursor, or a text that ends there
-abbrev pub Peeked : Cursor → Result ℕ TextFault → Type 0
+-- the byte at the place, or a text that ends there
+abbrev pub Peeked : Reader → Result ℕ TextFault → Type 0
 Peeked r (Ok c) = (rest r ≡ c ∷ drop (r .place + 1) (r .text .now)) × (r .place < length (r .text .now))
 Peeked r (Err e) = (rest r ≡ []) × (e ≡ Grammar (r .place))
 
@@ -107,13 +107,13 @@ count-of (Bound n) = n
 abbrev pub seen : Tables → List ℕ → ℕ → Seen
 seen t vs d = record { vals = vs; depth = d; tys = t .types; tms = t .terms; stations = t .stations; start = t .start }
 
--- how reading goes on from the reader
-abbrev pub at : Reader → List Want → List ℕ → ℕ → Outcome
-at r ws vs d = from (r .cursor) ws (seen (tables (r .draft .now)) vs d)
+-- how reading goes on, with these tables
+abbrev pub at : Reader → Program → List Want → List ℕ → ℕ → Outcome
+at r p ws vs d = from r ws (seen (tables p) vs d)
 
 -- how it goes on with a form's bracket open
-abbrev pub inside : Reader → Form → List Want → List ℕ → ℕ → Outcome
-inside r f ws vs d = from (r .cursor) ws (opened f (seen (tables (r .draft .now)) vs d))
+abbrev pub inside : Reader → Program → Form → List Want → List ℕ → ℕ → Outcome
+inside r p f ws vs d = from r ws (opened f (seen (tables p) vs d))
 
 -- a type's form, and its parts, the last first
 abbrev pub type-form : Ty → Form

@@ -3,13 +3,36 @@ ghost use mathlib.Core.Path.{_≡_};
 ghost use mathlib.Core.List.{_∷_, [], _++_};
 ghost use Prim.Native.Nat.{_<_, _≤_};
 ghost use lib.ListN.{length, set};
-ghost use Rattle.syntax.specs.Place.{tables, with-types, with-terms, with-stations, BegunType, BegunTerm};
+ghost use Rattle.std.specs.Vec.{made};
+ghost use Rattle.syntax.specs.Place.{tables, blank, with-types, with-terms, with-stations, BegunType, BegunTerm};
 use crate::program::Term;
 use crate::program::Ty;
 use crate::table::Program;
+use instruments::sheet::Sheet;
 use instruments::sheet::Station;
+use std::alloc::AllocError;
+use std::alloc::Global;
 
 impl Program {
+    // Tables with nothing in them, and room for every program.
+    pub(crate) fn new(heap: Global) -> Result<Program, AllocError>
+        ensures { λ r. ⌜ made r (λ p. tables p ≡ blank) ⌝ }
+    {
+        let types = Vec::with_capacity(heap, 512)?;
+        let terms = Vec::with_capacity(heap, 1024)?;
+        Ok(Program { types, terms, sheet: Sheet::new(), start: 0 })
+    }
+
+    // Takes everything out.
+    pub(crate) fn clear(&mut self)
+        ensures { λ _. ⌜ tables (now (self .exit)) ≡ blank ⌝ }
+    {
+        self.types.clear();
+        self.terms.clear();
+        self.sheet = Sheet::new();
+        self.start = 0;
+    }
+
     // A type begins: it takes the next number.
     pub(crate) fn begin_type(&mut self) -> Option<u16>
         ensures { λ r. ⌜ BegunType (tables (now (self .entry))) r (tables (now (self .exit))) ⌝ }

@@ -1,9 +1,12 @@
 // Program texts: their grammar, their tables, reading and writing.
-mod cursor;
 mod draft;
 pub mod grammar;
+mod items;
 pub mod program;
 mod reader;
+pub mod reading;
 mod spelling;
 pub mod table;
+pub mod text;
 pub mod theorems;
+mod whole;

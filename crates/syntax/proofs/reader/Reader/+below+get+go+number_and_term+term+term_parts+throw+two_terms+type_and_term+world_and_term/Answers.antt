@@ -26,5 +26,5 @@ throw-returns t c = record {
 
 pub term-returns : need.term-returns
 term-returns t c = λ k vs. c .in-Continue-number .ensures tt .led k vs ∙ c .in-Continue-node .ensures tt .led k _ ∙ c .in-Continue-stop .ensures tt (close (c .in-Continue-number .form)) k _ (sym (c .last .ensures))
-  ∙ ap (λ (x : Seen). from (c .stop .last .self) k x) (term-ends (tables (c .term-parts .last .self .draft .now)) vs (c .args .depth) (c .in-Continue-number .number) (c .in-Continue-node .node) (c .in-Continue-number .form) (c .in-Continue-node .ensures tt .formed))
+  ∙ ap (λ (x : Seen). from (c .stop .last .self) k x) (term-ends (tables (c .term-parts .last .draft)) vs (c .args .depth) (c .in-Continue-number .number) (c .in-Continue-node .node) (c .in-Continue-number .form) (c .in-Continue-node .ensures tt .formed))
   ∙ ap (λ (q : Tables). from (c .stop .last .self) k (seen q (c .in-Continue-number .number ∷ vs) (c .args .depth))) (sym (c .settle-term .ensures))

@@ -11,7 +11,5 @@ use Rattle.syntax.proofs.Picks.{clear-all, in-all}
 use Rattle.syntax.proofs.reader.Reader.first_line.Needs as need
 
 pub returns : need.returns
-returns c = record {
-  led = λ k vs. c .in-Continue-first .ensures tt .led k _ refl ∙ c .in-Continue-word .ensures tt .led k _ (clear-all First (seen (tables (c .args .self .now .draft .now)) vs 0) (λ b. refl) (words First))
-    ∙ ap (λ (f : Form). from (c .word .last .self) (wants f k) (opened f (seen (tables (c .args .self .now .draft .now)) vs 0))) (in-all (λ (f : Form). f ≡ Station) _ _ (Station ∷ []) (c .in-Continue-word .ensures tt .picked .0) (refl, tt));
-  same = refl }
+returns c = λ k s d. c .in-Continue-first .ensures tt .led k s d ∙ c .in-Continue-word .ensures tt .led k s (clear-all First s (λ b. refl) (words First))
+  ∙ ap (λ (f : Form). from (c .word .last .self) (wants f k) (opened f s)) (in-all (λ (f : Form). f ≡ Station) _ _ (Station ∷ []) (c .in-Continue-word .ensures tt .picked .0) (refl, tt))

@@ -9,7 +9,7 @@ use Rattle.syntax.specs.declared.grammar.Sort.the-variants.{Further}
 use Rattle.syntax.proofs.reader.Reader.text.Given as given
 
 abbrev pub Inv-loop-self : given.InvT-loop-self
-Inv-loop-self l = at (l .entry .self) (item Further ∷ []) [] 0 ≡ at (l .self) (item Further ∷ []) [] 0
+Inv-loop-self l = at (l .entry .self) (l .entry .draft) (item Further ∷ []) [] 0 ≡ at (l .self) (l .draft) (item Further ∷ []) [] 0
 
 abbrev pub μ-loop-self : given.MeasureT-loop-self
-μ-loop-self l = 16 - length (tables (l .self .draft .now) .stations)
+μ-loop-self l = 16 - length (tables (l .draft) .stations)

@@ -3,7 +3,7 @@ use Prim.Native.Nat.{_+_, _≤_}
 use lib.ListN.{length, take}
 use Rattle.syntax.specs.Grammar.{spelled-out}
 use Rattle.syntax.specs.Views.{Misses, farthest}
-use Rattle.syntax.proofs.cursor.find.Given as given
+use Rattle.syntax.proofs.reader.find.Given as given
 
 abbrev pub Inv-loop-form : given.InvT-loop-form
 Inv-loop-form l =

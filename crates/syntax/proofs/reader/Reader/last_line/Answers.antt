@@ -11,7 +11,7 @@ use Rattle.syntax.proofs.Steps.{go-none}
 use Rattle.syntax.proofs.Exits.{exit, told-grammar}
 use Rattle.syntax.proofs.Picks.{in-all}
 use Rattle.syntax.proofs.Rolls.{line-many, line-run, run-clear}
-use Rattle.syntax.proofs.cursor.Cursor.last_line.Needs as need
+use Rattle.syntax.proofs.reader.Reader.last_line.Needs as need
 
 pub returns-in-Break-peek : need.returns-in-Break-peek
 returns-in-Break-peek c = λ k s h. exit _ _ (c .from-residual .ensures .1) _ _ (told-grammar _ _ _ (c .in-Break-peek .ensures tt .1) (go-none _ _ s _ (c .in-Break-peek .ensures tt .0)))

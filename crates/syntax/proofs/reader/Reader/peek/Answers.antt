@@ -1,7 +1,7 @@
 use mathlib.Core.Path.{refl}
 use native.Mathlib.Omega.{arith}
 use Rattle.std.proofs.shelf.Lists.{drop-more, drop-all}
-use Rattle.syntax.proofs.cursor.Cursor.peek.Needs as need
+use Rattle.syntax.proofs.reader.Reader.peek.Needs as need
 
 pub returns-then-self : need.returns-then-self
 returns-then-self c = (drop-more (c .args .self .now .text .now) (c .args .self .now .place) 0 (omega arith), omega arith)

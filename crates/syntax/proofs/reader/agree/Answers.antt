@@ -1,6 +1,6 @@
 use native.Mathlib.Omega.{arith}
 use Rattle.syntax.proofs.Finds.{agreed-more, agreed-differ, agreed-word-ends, agreed-text-ends}
-use Rattle.syntax.proofs.cursor.agree.Needs as need
+use Rattle.syntax.proofs.reader.agree.Needs as need
 
 pub loop-n-again : need.loop-n-again
 loop-n-again c = omega (arith, c .loop-n .inv, agreed-more (c .args .word .now) (c .args .text .now) (c .loop-n .n) (c .loop-n-test .taken) (c .if-n-text .taken) (c .if-word-n .taken))

@@ -9,7 +9,7 @@ use Rattle.syntax.specs.Texts.{Apart, In}
 use Rattle.syntax.specs.Views.{rest, from, Led, Clear}
 use Rattle.syntax.specs.declared.grammar.Form.{Form}
 use Rattle.syntax.proofs.Theory.{words-apart}
-use Rattle.syntax.proofs.cursor.Cursor.word.Needs as need
+use Rattle.syntax.proofs.reader.Reader.word.Needs as need
 
 pub returns : need.returns
 returns c = record {

@@ -7,7 +7,7 @@ use Rattle.syntax.specs.declared.grammar.Sort.the-variants.{Worlds}
 use Rattle.syntax.proofs.Exits.{exit}
 use Rattle.syntax.proofs.Picks.{clear-all, world-names, site-shut, bound-shut, not-none}
 use Rattle.syntax.proofs.Theory.{no-digit}
-use Rattle.syntax.proofs.cursor.Cursor.world.Needs as need
+use Rattle.syntax.proofs.reader.Reader.world.Needs as need
 
 pub returns-in-Break-form : need.returns-in-Break-form
 returns-in-Break-form c = λ k s d. exit _ _ (c .from-residual-in-Break-form .ensures .1) _ _ (c .in-Continue-first .ensures tt .led k s d ∙ c .in-Break-form .ensures tt .led k s (clear-all Worlds s (λ b. refl) (words Worlds)))

@@ -7,7 +7,7 @@ use Rattle.syntax.specs.Grammar.{Want, Stop, byte}
 use Rattle.syntax.specs.Grammar.Want.{digits}
 use Rattle.syntax.specs.Reading.{Seen, digit}
 use Rattle.syntax.specs.Views.{from}
-use Rattle.syntax.proofs.cursor.Cursor.number.Given as given
+use Rattle.syntax.proofs.reader.Reader.number.Given as given
 
 abbrev pub Inv-loop-c : given.InvT-loop-c
 Inv-loop-c l =

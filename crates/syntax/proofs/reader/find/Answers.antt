@@ -2,8 +2,8 @@ use native.Mathlib.Omega.{arith}
 use Prim.Native.Nat.{max}
 use mathlib.Core.Path.{_≡_}
 use Rattle.syntax.proofs.Finds.{found-at, misses-more, misses-all}
-use Rattle.syntax.proofs.cursor.find.Needs as need
-use Rattle.syntax.proofs.cursor.find.Needs.{then-n-far, else-n-far}
+use Rattle.syntax.proofs.reader.find.Needs as need
+use Rattle.syntax.proofs.reader.find.Needs.{then-n-far, else-n-far}
 
 pub returns-then-n-word : need.returns-then-n-word
 returns-then-n-word c = found-at (c .args .forms .now) (c .loop-form .form-index) (c .agree-n .result) _ (c .word-word .result .now) (c .args .text .now)

@@ -1,7 +1,7 @@
 use mathlib.Core.Path.{refl, _∙_, sym}
 use Rattle.syntax.proofs.Steps.{stop-takes, stop-refuses, stop-ends}
 use Rattle.syntax.proofs.Exits.{exit, told-grammar}
-use Rattle.syntax.proofs.cursor.Cursor.stop.Needs as need
+use Rattle.syntax.proofs.reader.Reader.stop.Needs as need
 
 pub returns-in-Break-c : need.returns-in-Break-c
 returns-in-Break-c c = λ a k s f. exit _ _ (c .from-residual .ensures .1) _ _ (told-grammar _ _ _ (c .in-Break-c .ensures tt .1) (stop-ends _ _ _ a k s f (c .in-Break-c .ensures tt .0)))

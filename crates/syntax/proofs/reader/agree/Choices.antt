@@ -2,7 +2,7 @@ use mathlib.Core.Path.{_≡_}
 use Prim.Native.Nat.{_+_, _-_}
 use lib.ListN.{length, drop}
 use Rattle.syntax.specs.Views.{agreed}
-use Rattle.syntax.proofs.cursor.agree.Given as given
+use Rattle.syntax.proofs.reader.agree.Given as given
 
 abbrev pub Inv-loop-n : given.InvT-loop-n
 Inv-loop-n l = agreed (l .word) (l .text) ≡ l .n + agreed (drop (l .n) (l .word)) (drop (l .n) (l .text))

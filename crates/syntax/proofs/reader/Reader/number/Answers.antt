@@ -10,8 +10,8 @@ use Rattle.syntax.specs.Reading.{Seen, go, digit}
 use Rattle.syntax.proofs.Steps.{number-refuses, number-zero, number-some, digits-stop, digits-large, digits-sheet, digits-on, go-none}
 use Rattle.std.proofs.shelf.Results.{made-from-err}
 use Rattle.syntax.proofs.Exits.{exit, told-grammar}
-use Rattle.syntax.proofs.cursor.Cursor.number.Needs as need
-use Rattle.syntax.proofs.cursor.Cursor.number.Needs.{else-counts·by·then-counts·else-value-gt32, else-counts·by·else-counts}
+use Rattle.syntax.proofs.reader.Reader.number.Needs as need
+use Rattle.syntax.proofs.reader.Reader.number.Needs.{else-counts·by·then-counts·else-value-gt32, else-counts·by·else-counts}
 
 pub returns-in-Break-c : need.returns-in-Break-c
 returns-in-Break-c c = record {

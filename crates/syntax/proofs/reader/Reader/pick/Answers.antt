@@ -5,7 +5,7 @@ use Rattle.std.proofs.shelf.Results.{made-from-err}
 use Rattle.syntax.proofs.Steps.{go-none}
 use Rattle.syntax.proofs.Exits.{exit, told-grammar}
 use Rattle.syntax.proofs.Finds.{word-found, word-missed, bracket-first}
-use Rattle.syntax.proofs.cursor.Cursor.pick.Needs as need
+use Rattle.syntax.proofs.reader.Reader.pick.Needs as need
 
 pub returns-in-Break-peek : need.returns-in-Break-peek
 returns-in-Break-peek c = record {

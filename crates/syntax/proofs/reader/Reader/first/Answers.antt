@@ -8,7 +8,7 @@ use Rattle.std.proofs.shelf.Results.{made-from-err}
 use Rattle.syntax.proofs.Steps.{go-none}
 use Rattle.syntax.proofs.Exits.{exit, told-grammar}
 use Rattle.syntax.proofs.Begins.{item-refuses, item-deep, item-begins}
-use Rattle.syntax.proofs.cursor.Cursor.first.Needs as need
+use Rattle.syntax.proofs.reader.Reader.first.Needs as need
 
 room-of : {c d : ℕ} → ((c ≡ 40) × (d < 64)) ⊎ (c ≡ 40 → ⊥) → c ≡ 40 → d < 64
 room-of (inl p) q = p .1
