@@ -1,4 +1,5 @@
 // Program texts: their grammar, their tables, reading and writing.
+pub mod access;
 mod draft;
 pub mod grammar;
 mod items;
@@ -10,3 +11,4 @@ pub mod table;
 pub mod text;
 pub mod theorems;
 mod whole;
+mod writer;
