@@ -12,3 +12,4 @@ pub mod text;
 pub mod theorems;
 mod whole;
 mod writer;
+pub mod writing;
