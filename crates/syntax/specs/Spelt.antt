@@ -11,7 +11,10 @@ use Rattle.lines.specs.declared.refusal.Refusal.the-variants.{Nothing}
 use Rattle.lines.specs.Writing.{written, written-after}
 use Rattle.instruments.specs.declared.sheet.Station.{Station}
 use Rattle.syntax.specs.Grammar.{spelling, last}
-use Rattle.syntax.specs.Place.{Tables, Place}
+use mathlib.Core.Path.{_≡_}
+use Rattle.syntax.specs.Reading.{Seen, read}
+use Rattle.syntax.specs.Reading.Outcome.{done}
+use Rattle.syntax.specs.Place.{Tables, Place, tables-of}
 use Rattle.syntax.specs.Place.Place.{empty, full}
 use Rattle.syntax.specs.Views.{type-form, term-form}
 use Rattle.syntax.specs.declared.program.Ty.{Ty}
@@ -95,3 +98,7 @@ written-back (full t) out = written (text-of t) out
 abbrev pub written-back-after : Place → List ℕ → List ℕ
 written-back-after empty out = out
 written-back-after (full t) out = written-after (text-of t) out
+
+-- writing what was read gives the bytes again
+abbrev pub Written-right : Type 0
+Written-right = (bs : List ℕ) (s : Seen) → read bs ≡ done s → text-of (tables-of s) ≡ bs

@@ -3,7 +3,7 @@ ghost use mathlib.Core.Path.{_≡_};
 ghost use Prim.Native.Nat.{_≤_};
 ghost use Rattle.lines.specs.Writing.{Writes, written, written-after};
 ghost use Rattle.syntax.specs.Place.{tables, place as place-of};
-ghost use Rattle.syntax.specs.Spelt.{station-line, station-lines, text-of, written-back, written-back-after};
+ghost use Rattle.syntax.specs.Spelt.{station-line, station-lines, text-of, written-back, written-back-after, Written-right};
 use crate::table::Program;
 use crate::text::Text;
 use instruments::sheet::Station;
@@ -70,4 +70,11 @@ impl Text {
         }
         self.program.write(out)
     }
+}
+
+// The theorem of writing.
+pub fn writing_stands() -> u8
+    ensures { λ _. ⌜ Written-right ⌝ }
+{
+    0
 }
