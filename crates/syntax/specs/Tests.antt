@@ -67,3 +67,8 @@ sound-test types terms stations =
     each-row (λ n r. type-test (n + 1) (length types) r) 0 types
     && (each-row (λ n r. term-test (length types) (n + 1) (length terms) r) 0 terms
     && (ltb 0 (length terms) && (leb (length terms) 1024 && (leb (length types) 512 && (ltb 0 (length stations) && leb (size terms 0) (length terms))))))
+
+-- a place that is full holds a program that passes the test
+abbrev pub kept-test : Bool → List Ty → List Term → List Station → Bool
+kept-test true types terms stations = sound-test types terms stations
+kept-test false types terms stations = true
