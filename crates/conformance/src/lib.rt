@@ -7,3 +7,5 @@ mod images;
 mod refusals;
 #[cfg(test)]
 mod surveys;
+#[cfg(test)]
+mod texts;
