@@ -6,3 +6,4 @@ pub mod Arms
 pub mod Rows
 pub mod Binders
 pub mod Opening
+pub mod Whole

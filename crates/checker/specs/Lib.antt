@@ -8,3 +8,9 @@ pub mod Scopes
 pub mod Judging
 -- what counts, worlds and registers of a term stand for
 pub mod Lookups
+-- what an accepted program carries
+pub mod Typed
+-- what checking answers and leaves
+pub mod Accepting
+-- what judging a whole program answers
+pub mod Concluding
