@@ -1,17 +1,15 @@
 // Checking the program of a text place into a place for accepted programs.
 ghost use mathlib.Core.Path.{_≡_};
-ghost use mathlib.Core.List.{List, []};
 ghost use Prim.Native.Nat.{_≤_};
-ghost use lib.ListN.{length, take};
+ghost use lib.ListN.{length};
 ghost use Rattle.std.specs.Of.Vec.{vec-items, vec-cap};
 ghost use Rattle.std.specs.Vec.{made};
-ghost use Rattle.instruments.specs.Sheets.{stations-of};
 ghost use Rattle.syntax.specs.Place.{tables, place as text-place};
 ghost use Rattle.calculus.specs.Checker.{CheckDecides};
-ghost use Rattle.checker.specs.Scopes.{rows-of};
-ghost use Rattle.checker.specs.Judging.{Same};
-ghost use Rattle.checker.specs.Accepting.{place as place-of, answered, checked-into};
-ghost use Rattle.checker.specs.Accepting.Place.{empty};
+ghost use Rattle.std.specs.declared.result.Result.the-variants.{Ok};
+ghost use Rattle.checker.specs.Scopes.{rows-of, meaning-of};
+ghost use Rattle.checker.specs.Accepting.{place as place-of, program-of, answered, checked-into};
+ghost use Rattle.checker.specs.Accepting.Place.{empty, full as a-program};
 ghost use Rattle.checker.specs.Concluding.{Sound, Clear, Concluded};
 use crate::accepted::Accepted;
 use crate::context::At;
@@ -19,6 +17,7 @@ use crate::context::Bound;
 use crate::context::Context;
 use crate::context::Height;
 use crate::scopes::ScopeList;
+use instruments::sheet::Sheet;
 use lines::refusal::CheckFault;
 use lines::refusal::Refusal;
 use lines::refusal::RefusalFromCheck;
@@ -82,4 +81,47 @@ impl Context {
         }
         self.judge(program.terms(), &sheet, 0, At::Site(start))
     }
+}
+
+impl Accepted {
+    // An empty place, with room for every program.
+    pub fn new(heap: Global) -> Result<Accepted, AllocError>
+        ensures { λ r. ⌜ made r (λ a. place-of a ≡ empty) ⌝ }
+    {
+        let types = Vec::with_capacity(heap, 1536)?;
+        let terms = Vec::with_capacity(heap, 1024)?;
+        Ok(Accepted { full: false, written: 0, types, terms, sheet: Sheet::new(), start: 0, ty: 0 })
+    }
+
+    // Takes over a program that was accepted, with the types that were built for it.
+    fn fill(&mut self, program: &Program, context: &mut Context, ty: u16)
+        requires { ⌜ Concluded (tables (now program)) (Ok ty) (now context) ⌝ }
+        ensures place { λ _. ⌜ place-of (now (self .exit)) ≡ a-program (program-of (tables (now (program .entry)))) (meaning-of (now (context .entry)) ty) ⌝ }
+        ensures height { λ _. ⌜ now (context .exit) .height ≡ now (context .entry) .height ⌝ }
+    {
+        copy_rows(program.terms(), &mut self.terms);
+        std::mem::swap(&mut self.types, &mut context.types);
+        self.written = context.written;
+        self.sheet = program.sheet();
+        self.start = program.start();
+        self.ty = ty;
+        self.full = true;
+    }
+}
+
+// Checks the program of a text place. An accepted program goes into the place for programs, with tables of its own and its type; one
+// that is refused leaves that place as it was, and either way nothing stays bound. `decides`: a program is accepted exactly if the typing
+// rules give it a type, and then with that type and no other.
+pub fn check(text: &Text, scopes: &mut ScopeList, place: &mut Accepted) -> Result<(), Refusal>
+    ensures value { λ r. ⌜ r ≡ answered (text-place (now (text .entry))) ⌝ }
+    ensures after { λ _. ⌜ place-of (now (place .exit)) ≡ checked-into (place-of (now (place .entry))) (text-place (now (text .entry))) ⌝ }
+    ensures height { λ _. ⌜ now (scopes .exit) .context .height ≡ now (scopes .entry) .context .height ⌝ }
+    ensures decides { λ _. ⌜ CheckDecides ⌝ }
+{
+    let Some(program) = text.program() else {
+        return Err(Refusal::Nothing);
+    };
+    let ty = scopes.context.conclude(program)?;
+    place.fill(program, &mut scopes.context, ty);
+    Ok(())
 }
