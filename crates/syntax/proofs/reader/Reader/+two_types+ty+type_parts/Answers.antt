@@ -13,7 +13,7 @@ use Rattle.syntax.proofs.reader.Reader.+two_types+ty+type_parts.Needs as need
 
 pub type-parts-unreachable-requires : need.type-parts-unreachable-requires
 type-parts-unreachable-requires t c κs = not-none _ (c .args .form) (forms Types) (c .pre .form)
-  (c .in-rest .not-TNum, (c .in-rest .not-TNone, (c .in-rest .not-TFn, (c .in-rest .not-TBox, (c .in-rest .not-TAt, (c .in-rest .not-TBoth, tt))))))
+    (c .in-rest .not-TNum, (c .in-rest .not-TNone, (c .in-rest .not-TFn, (c .in-rest .not-TBox, (c .in-rest .not-TAt, (c .in-rest .not-TBoth, tt))))))
 
 pub two-types-returns-in-Break-left : need.two-types-returns-in-Break-left
 two-types-returns-in-Break-left t c = λ k vs. exit _ _ (c .from-residual .ensures .1) _ _ (c .in-Break-left .ensures tt _ vs)
@@ -38,5 +38,5 @@ ty-returns-in-Break-stop t c = λ k vs. exit _ _ (c .from-residual-in-Break-stop
 
 pub ty-returns : need.ty-returns
 ty-returns t c = λ k vs. c .in-Continue-number .ensures tt .led k vs ∙ c .in-Continue-node .ensures tt .led k _ ∙ c .in-Continue-stop .ensures tt (close (c .in-Continue-number .form)) k _ (sym (c .last .ensures))
-  ∙ ap (λ (x : Seen). from (c .stop .last .self) k x) (type-ends (tables (c .type-parts .last .draft)) vs (c .args .depth) (c .in-Continue-number .number) (c .in-Continue-node .node) (c .in-Continue-number .form) (c .in-Continue-node .ensures tt .formed))
-  ∙ ap (λ (q : Tables). from (c .stop .last .self) k (seen q (c .in-Continue-number .number ∷ vs) (c .args .depth))) (sym (c .settle-type .ensures))
+    ∙ ap (λ (x : Seen). from (c .stop .last .self) k x) (type-ends (tables (c .type-parts .last .draft)) vs (c .args .depth) (c .in-Continue-number .number) (c .in-Continue-node .node) (c .in-Continue-number .form) (c .in-Continue-node .ensures tt .formed))
+    ∙ ap (λ (q : Tables). from (c .stop .last .self) k (seen q (c .in-Continue-number .number ∷ vs) (c .args .depth))) (sym (c .settle-type .ensures))
