@@ -4,11 +4,11 @@ ghost use mathlib.Core.Bool.{false};
 ghost use mathlib.Core.List.{List, _∷_, _++_};
 ghost use Prim.Native.Nat.{ℕ, _<_};
 ghost use Rattle.std.specs.Vec.{made};
-ghost use Rattle.syntax.specs.Grammar.{Want, words, wants, last as last-byte, spelling};
+ghost use Rattle.syntax.specs.Grammar.{Want, words, wants, last as last-byte, spelling, spelled-out};
 ghost use Rattle.syntax.specs.Grammar.Stop.{close, space};
 ghost use Rattle.syntax.specs.Grammar.Want.{stop as want-stop, number as want-number, item as want-item};
 ghost use Rattle.syntax.specs.Texts.{In};
-ghost use Rattle.syntax.specs.Views.{Led, at, inside, type-form, type-parts, term-form, term-parts, get-form, kind-of, count-of};
+ghost use Rattle.syntax.specs.Views.{Led, at, inside, type-form, type-parts, term-form, term-parts, get-form, kind-of, count-of, longer};
 ghost use Rattle.syntax.specs.declared.grammar.Form.the-variants.{Throw, Go, Below};
 ghost use Rattle.syntax.specs.declared.grammar.Sort.the-variants.{Types, Terms, Worlds};
 use crate::grammar::Form;
@@ -205,6 +205,50 @@ impl Reader<'_> {
         })
     }
 
+    // The parts of a term that has two parts or more, its world aside.
+    fn more_parts(
+        &mut self,
+        draft: &mut Program,
+        form: Form,
+        depth: usize,
+    ) -> Result<Term, TextFault>
+        requires form { ⌜ In (spelling form) form (spelled-out longer) ⌝ }
+        requires room { ⌜ (last-byte form ≡ 41 → depth < 64) ⌝ }
+        ensures led { λ r. ⌜ ((k : List Want) (vs : List ℕ) → Led r (inside (now (self .entry)) (now (draft .entry)) form (wants form k) vs depth) (λ t. inside (now (self .exit)) (now (draft .exit)) form (want-stop (close form) ∷ k) (term-parts t ++ vs) depth)) ⌝ }
+        ensures formed { λ r. ⌜ made r (λ t. term-form t ≡ form) ⌝ }
+    {
+        match form {
+            Form::Lam => {
+                let (written, body) = self.type_and_term(draft, depth + 1)?;
+                Ok(Term::Lam { written, body })
+            }
+            Form::App => {
+                let (function, argument) = self.two_terms(draft, depth + 1)?;
+                Ok(Term::App { function, argument })
+            }
+            Form::Letd => {
+                let (address, body) = self.two_terms(draft, depth + 1)?;
+                Ok(Term::Letd { address, body })
+            }
+            Form::Pair => {
+                let (left, right) = self.two_terms(draft, depth + 1)?;
+                Ok(Term::Pair { left, right })
+            }
+            Form::Letcc => {
+                let (written, body) = self.type_and_term(draft, depth + 1)?;
+                Ok(Term::Letcc { written, body })
+            }
+            Form::Throw => self.throw(draft, depth + 1),
+            Form::Go => self.go(draft, depth + 1),
+            Form::Gate => {
+                let (number, part) = self.number_and_term(draft, depth + 1)?;
+                Ok(Term::Gate { number, part })
+            }
+            Form::Below => self.below(draft, depth + 1),
+            _ => unreachable(),
+        }
+    }
+
     // A term's parts.
     fn term_parts(
         &mut self,
@@ -220,43 +264,16 @@ impl Reader<'_> {
         match form {
             Form::Num => Ok(Term::Num(self.number(false)?)),
             Form::Val => Ok(Term::Value(self.number(false)?)),
-            Form::Lam => {
-                let (written, body) = self.type_and_term(draft, depth + 1)?;
-                Ok(Term::Lam { written, body })
-            }
-            Form::App => {
-                let (function, argument) = self.two_terms(draft, depth + 1)?;
-                Ok(Term::App { function, argument })
-            }
             Form::Boxed => Ok(Term::Boxed(self.term(draft, depth + 1)?)),
             Form::Unbox => Ok(Term::Unbox(self.term(draft, depth + 1)?)),
             Form::Here => Ok(Term::Here(self.term(draft, depth + 1)?)),
-            Form::Letd => {
-                let (address, body) = self.two_terms(draft, depth + 1)?;
-                Ok(Term::Letd { address, body })
-            }
             Form::Getb => self.get(draft, Mobile::Code, depth + 1),
             Form::Getd => self.get(draft, Mobile::Address, depth + 1),
             Form::Getn => self.get(draft, Mobile::Number, depth + 1),
-            Form::Pair => {
-                let (left, right) = self.two_terms(draft, depth + 1)?;
-                Ok(Term::Pair { left, right })
-            }
             Form::Fst => Ok(Term::Fst(self.term(draft, depth + 1)?)),
             Form::Snd => Ok(Term::Snd(self.term(draft, depth + 1)?)),
-            Form::Letcc => {
-                let (written, body) = self.type_and_term(draft, depth + 1)?;
-                Ok(Term::Letcc { written, body })
-            }
-            Form::Throw => self.throw(draft, depth + 1),
-            Form::Go => self.go(draft, depth + 1),
             Form::Gauge => Ok(Term::Gauge(self.number(false)?)),
-            Form::Gate => {
-                let (number, part) = self.number_and_term(draft, depth + 1)?;
-                Ok(Term::Gate { number, part })
-            }
-            Form::Below => self.below(draft, depth + 1),
-            _ => unreachable(),
+            _ => self.more_parts(draft, form, depth),
         }
     }
 

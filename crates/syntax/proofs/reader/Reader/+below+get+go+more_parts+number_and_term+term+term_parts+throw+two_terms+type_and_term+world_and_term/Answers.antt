@@ -1,20 +1,22 @@
 use mathlib.Core.Path.{_≡_, refl, sym, ap, _∙_}
 use mathlib.Core.List.{List, _∷_}
-use Rattle.syntax.specs.Grammar.{forms}
+use native.Mathlib.Omega.{arith}
 use Rattle.syntax.specs.Grammar.Stop.{space, close}
 use Rattle.syntax.specs.Reading.{Seen}
 use Rattle.syntax.specs.Place.{Tables, tables}
 use Rattle.std.proofs.shelf.Results.{made-from-err}
-use Rattle.syntax.specs.Views.{from, seen, kind-of, count-of}
+use Rattle.syntax.specs.Views.{from, seen, kind-of, count-of, longer}
 use Rattle.syntax.proofs.Exits.{exit}
 use Rattle.syntax.proofs.Ends.{term-ends}
-use Rattle.syntax.specs.declared.grammar.Sort.the-variants.{Terms}
-use Rattle.syntax.proofs.Picks.{not-none}
-use Rattle.syntax.proofs.reader.Reader.+below+get+go+number_and_term+term+term_parts+throw+two_terms+type_and_term+world_and_term.Needs as need
+use Rattle.syntax.proofs.Picks.{not-none, in-longer}
+use Rattle.syntax.proofs.reader.Reader.+below+get+go+more_parts+number_and_term+term+term_parts+throw+two_terms+type_and_term+world_and_term.Needs as need
 
-pub term-parts-unreachable-requires : need.term-parts-unreachable-requires
-term-parts-unreachable-requires t c κs = not-none _ (c .args .form) (forms Terms) (c .pre .form)
-    (c .in-rest .not-Num, (c .in-rest .not-Val, (c .in-rest .not-Lam, (c .in-rest .not-App, (c .in-rest .not-Boxed, (c .in-rest .not-Unbox, (c .in-rest .not-Here, (c .in-rest .not-Letd, (c .in-rest .not-Getb, (c .in-rest .not-Getd, (c .in-rest .not-Getn, (c .in-rest .not-Pair, (c .in-rest .not-Fst, (c .in-rest .not-Snd, (c .in-rest .not-Letcc, (c .in-rest .not-Throw, (c .in-rest .not-Go, (c .in-rest .not-Gauge, (c .in-rest .not-Gate, (c .in-rest .not-Below, tt))))))))))))))))))))
+pub more-parts-unreachable-requires : need.more-parts-unreachable-requires
+more-parts-unreachable-requires t c κs = not-none _ (c .args .form) longer (c .pre .form)
+    (c .in-rest .not-Lam, (c .in-rest .not-App, (c .in-rest .not-Letd, (c .in-rest .not-Pair, (c .in-rest .not-Letcc, (c .in-rest .not-Throw, (c .in-rest .not-Go, (c .in-rest .not-Gate, (c .in-rest .not-Below, tt)))))))))
+
+pub term-parts-more-parts-requires : need.term-parts-more-parts-requires
+term-parts-more-parts-requires t c κs = (omega arith, (in-longer (c .args .form) (c .pre .form) (c .in-rest .not-Num, (c .in-rest .not-Val, (c .in-rest .not-Boxed, (c .in-rest .not-Unbox, (c .in-rest .not-Here, (c .in-rest .not-Getb, (c .in-rest .not-Getd, (c .in-rest .not-Getn, (c .in-rest .not-Fst, (c .in-rest .not-Snd, (c .in-rest .not-Gauge, tt))))))))))), c .pre .room))
 
 pub go-returns : need.go-returns
 go-returns t c = record {
