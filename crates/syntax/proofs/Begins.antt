@@ -46,7 +46,7 @@ by-full false bs i m = refl
 
 -- the byte leaves the words l, each longer
 begins-with : (o : Sort) (b : ℕ) (v : List ℕ) (f : Form) (l : List (List ℕ × Form)) (k : List Want) (s : Seen) (i c : ℕ) (bs : List ℕ) → (eqb c 40 && leb 64 (s .depth)) ≡ false → many o c (begun o s) ≡ false →
-  moved bs i (began o ((b ∷ v, f) ∷ l) k s i c) ≡ cond (full o s) (refused 13 i) (moved bs i (spelled o ((b ∷ v, f) ∷ l) k (begun o s) i c))
+    moved bs i (began o ((b ∷ v, f) ∷ l) k s i c) ≡ cond (full o s) (refused 13 i) (moved bs i (spelled o ((b ∷ v, f) ∷ l) k (begun o s) i c))
 begins-with o b v f l k s i c bs h m = rw (h, m) (by-full (full o s) bs i (on (word o ((b ∷ v, f) ∷ l) ∷ k) (begun o s)))
 
 module _ (k : List Want) (s : Seen) (i : ℕ) (bs : List ℕ) where

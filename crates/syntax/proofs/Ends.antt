@@ -7,12 +7,14 @@ use Rattle.syntax.specs.Grammar.{world-by}
 use Rattle.syntax.specs.Grammar.Stop.{close}
 use Rattle.syntax.specs.Reading.{passed, opened}
 use Rattle.syntax.specs.Place.{Tables, with-types, with-terms}
-use Rattle.syntax.specs.Views.{seen, term-form, term-parts, get-form, kind-of, count-of}
+use Rattle.syntax.specs.Views.{seen, term-form, term-parts, type-form, type-parts, get-form, kind-of, count-of}
 use Rattle.syntax.specs.declared.grammar.Form.{Form}
 use Rattle.syntax.specs.declared.program.World.{World}
 use Rattle.syntax.specs.declared.program.World.the-variants.{Site, Bound}
 use Rattle.syntax.specs.declared.program.Mobile.{Mobile}
 use Rattle.syntax.specs.declared.program.Mobile.the-variants.{Code, Address, Number}
+use Rattle.syntax.specs.declared.program.Ty.{Ty}
+use Rattle.syntax.specs.declared.program.Ty.the-variants.{Never, Fn, At, Both, Num as Ty·Num, Boxed as Ty·Boxed}
 use Rattle.syntax.specs.declared.program.Term.{Term}
 use Rattle.syntax.specs.declared.program.Term.the-variants.{Num, Value, Lam, App, Boxed, Unbox, Here, Letd, Get, Pair, Fst, Snd, Letcc, Throw, Go, Gauge, Gate, Below}
 use Rattle.syntax.proofs.Picks.{back}
@@ -52,3 +54,17 @@ module _ (q : Tables) (vs : List ℕ) (d n : ℕ) where
 
   pub term-ends : (t : Term) (f : Form) → term-form t ≡ f → Ends t f
   term-ends t f e = subst (λ (g : Form). Ends t g) e (ends t)
+
+  abbrev EndsType : Ty → Form → Type 0
+  EndsType t f = passed (close f) (opened f (seen q (type-parts t ++ n ∷ vs) d)) ≡ seen (with-types q (set (q .types) n t)) (n ∷ vs) d
+
+  ends-type : (t : Ty) → EndsType t (type-form t)
+  ends-type Ty·Num = refl
+  ends-type Never = refl
+  ends-type (Fn a b) = rw (back d)
+  ends-type (Ty·Boxed a) = rw (back d)
+  ends-type (At a) = rw (back d)
+  ends-type (Both a b) = rw (back d)
+
+  pub type-ends : (t : Ty) (f : Form) → type-form t ≡ f → EndsType t f
+  type-ends t f e = subst (λ (g : Form). EndsType t g) e (ends-type t)

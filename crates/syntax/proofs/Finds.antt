@@ -62,8 +62,8 @@ agreed-all (x ∷ w) (y ∷ s) e = at (eqb y x) refl e (λ q. agreed-all w s q)
 -- the word that is there
 module _ (o : Sort) (ws : List Want) (s : Seen) where
   hit-at : (c i : ℕ) (more : List ℕ) (w : List ℕ) (f : Form) (l : List (List ℕ × Form)) → many o c s ≡ false → Apart l → In w f l →
-    ((d : ℕ) (v : List ℕ) → w ≡ d ∷ v → go (w ++ more) (word o l ∷ ws) s (i + 1) ≡ go more (wants f ws) (opened f s) (i + 1 + length w)) →
-    moved (w ++ more) i (spelled o l ws s i c) ≡ go more (wants f ws) (opened f s) (i + 1 + length w)
+      ((d : ℕ) (v : List ℕ) → w ≡ d ∷ v → go (w ++ more) (word o l ∷ ws) s (i + 1) ≡ go more (wants f ws) (opened f s) (i + 1 + length w)) →
+      moved (w ++ more) i (spelled o l ws s i c) ≡ go more (wants f ws) (opened f s) (i + 1 + length w)
   hit-at c i more w f [] free h m r = elim m [ ]
   hit-at c i more w f (([], g) ∷ l) free h here r = ap (go more (wants f ws) (opened f s)) (let z : i + 1 ≡ i + 1 + 0 = omega arith in z)
   hit-at c i more w f (([], g) ∷ l) free h (there m) r = absurd (both-ways true (far-in [] w f l (h .0) m .0) refl)
@@ -71,10 +71,10 @@ module _ (o : Sort) (ws : List Want) (s : Seen) where
   hit-at c i more (d ∷ w) f ((b ∷ v, g) ∷ l) free h m r = rw free (r d w refl)
 
   pub hit : (b : ℕ) (w : List ℕ) (f : Form) (ks : List (List ℕ × Form)) (i : ℕ) (more : List ℕ) → Clean o s (b ∷ w) → Apart ks → In (b ∷ w) f ks →
-    go (b ∷ w ++ more) (word o ks ∷ ws) s i ≡ go more (wants f ws) (opened f s) (i + 1 + length w)
+      go (b ∷ w ++ more) (word o ks ∷ ws) s i ≡ go more (wants f ws) (opened f s) (i + 1 + length w)
   hit b [] f ks i more free h m = go-cons b more (word o ks ∷ ws) s i ∙ hit-at b i more [] f (after b ks) (free .0) (apart-after b ks h) (in-after b [] f ks m) (λ d v e. absurd (let z : _≡_ {A = ℕ} 0 1 = cc in omega arith))
   hit b (d ∷ w) f ks i more free h m = go-cons b (d ∷ w ++ more) (word o ks ∷ ws) s i ∙ hit-at b i more (d ∷ w) f (after b ks) (free .0) (apart-after b ks h) (in-after b (d ∷ w) f ks m)
-    (λ x y e. hit d w f (after b ks) (i + 1) more (free .1) (apart-after b ks h) (in-after b (d ∷ w) f ks m) ∙ ap (go more (wants f ws) (opened f s)) (let z : i + 1 + 1 + length w ≡ i + 1 + length (d ∷ w) = omega arith in z))
+      (λ x y e. hit d w f (after b ks) (i + 1) more (free .1) (apart-after b ks h) (in-after b (d ∷ w) f ks m) ∙ ap (go more (wants f ws) (opened f s)) (let z : i + 1 + 1 + length w ≡ i + 1 + length (d ∷ w) = omega arith in z))
 
 abbrev Nears : List (List ℕ × Form) → ℕ → List ℕ → Type 0
 Nears [] n bs = n ≡ 0
@@ -168,14 +168,15 @@ spells f = let e = ap length (spelt f .0) in omega arith
 
 pub found-at : (fs : List Form) (i n : ℕ) (d : Form) (w bs : List ℕ) → i < length fs → w ≡ spelling (getD fs i d) → n ≡ agreed w bs → n ≡ length w → Found fs bs (Ok (getD fs i d))
 found-at fs i n d w bs h q a b =
-    let all : agreed (spelling (getD fs i d)) bs ≡ length (spelling (getD fs i d)) = subst (λ (x : List ℕ). agreed x bs ≡ length x) q (sym a ∙ b) in
-    (in-forms fs i d h,
-     agreed-all (spelling (getD fs i d)) bs all,
-     omega (arith, agreed-le (spelling (getD fs i d)) bs .1))
+    let all : agreed (spelling (getD fs i d)) bs ≡ length (spelling (getD fs i d)) = subst (λ (x : List ℕ). agreed x bs ≡ length x) q (sym a ∙ b) in (
+      in-forms fs i d h,
+      agreed-all (spelling (getD fs i d)) bs all,
+      omega (arith, agreed-le (spelling (getD fs i d)) bs .1),
+    )
 
 pub misses-more : (fs : List Form) (i n : ℕ) (d : Form) (w bs : List ℕ) (far far′ : ℕ) → i < length fs → w ≡ spelling (getD fs i d) → n ≡ agreed w bs → (n ≡ length w → ⊥) →
-  (Misses (spelled-out (take i fs)) bs × (far ≡ farthest (spelled-out (take i fs)) bs) × (far ≤ length bs)) → far′ ≡ max far n →
-  Misses (spelled-out (take (i + 1) fs)) bs × (far′ ≡ farthest (spelled-out (take (i + 1) fs)) bs) × (far′ ≤ length bs)
+    (Misses (spelled-out (take i fs)) bs × (far ≡ farthest (spelled-out (take i fs)) bs) × (far ≤ length bs)) → far′ ≡ max far n →
+    Misses (spelled-out (take (i + 1) fs)) bs × (far′ ≡ farthest (spelled-out (take (i + 1) fs)) bs) × (far′ ≤ length bs)
 misses-more fs i n d w bs far far′ h q a b v e =
     let n-is : n ≡ agreed (spelling (getD fs i d)) bs = a ∙ ap (λ (x : List ℕ). agreed x bs) q in
     let l-is : length w ≡ length (spelling (getD fs i d)) = ap length q in
@@ -197,7 +198,7 @@ module _ (o : Sort) (k : List Want) (s : Seen) (fs : List Form) (text bs : List 
   hit-any (b ∷ w) f more h free a m = hit o k s b w f (spelled-out fs) pos more free a m ∙ ap (go more (wants f k) (opened f s)) (let z : pos + 1 + length w ≡ pos + length (b ∷ w) = omega arith in z)
 
   pub word-found : (f : Form) (w : List ℕ) → Clear o s (spelled-out fs) → Apart (spelled-out fs) → In (spelling f) f (spelled-out fs) → bs ≡ spelling f ++ drop (length (spelling f)) bs → w ≡ spelling f →
-    go (drop pos text) (word o (spelled-out fs) ∷ k) s pos ≡ go (drop (pos + length w) text) (wants f k) (opened f s) (pos + length w)
+      go (drop pos text) (word o (spelled-out fs) ∷ k) s pos ≡ go (drop (pos + length w) text) (wants f k) (opened f s) (pos + length w)
   word-found f w free a m e q =
       ap (λ (x : List ℕ). go x (word o (spelled-out fs) ∷ k) s pos) (sym same ∙ e)
       ∙ hit-any (spelling f) f (drop (length (spelling f)) bs) (spells f) (clean-in o s (spelling f) f (spelled-out fs) free m) a m
@@ -208,5 +209,5 @@ module _ (o : Sort) (k : List Want) (s : Seen) (fs : List Form) (text bs : List 
   word-missed far free h e = ap (λ (x : List ℕ). go x (word o (spelled-out fs) ∷ k) s pos) (sym same) ∙ miss o s k bs (spelled-out fs) pos free h ∙ ap (λ (x : ℕ). refused 11 (pos + x)) (sym e)
 
 pub misses-all : (fs : List Form) (i : ℕ) (bs : List ℕ) (far : ℕ) → length fs ≤ i →
-  (Misses (spelled-out (take i fs)) bs × (far ≡ farthest (spelled-out (take i fs)) bs) × (far ≤ length bs)) → Found fs bs (Err far)
+    (Misses (spelled-out (take i fs)) bs × (far ≡ farthest (spelled-out (take i fs)) bs) × (far ≤ length bs)) → Found fs bs (Err far)
 misses-all fs i bs far h p = rw (take-all i fs h) at p

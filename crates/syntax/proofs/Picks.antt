@@ -4,18 +4,18 @@ use mathlib.Core.List.{List, [], _∷_, _++_}
 use mathlib.Core.Bool.{Bool, true, false, cond}
 use Prim.Native.Nat.{ℕ, _+_, _-_}
 use native.Mathlib.Omega.{arith}
-use Rattle.syntax.specs.Grammar.{Want, wants, words, forms, spelled-out}
+use Rattle.syntax.specs.Grammar.{Want, wants, words, forms, spelled-out, spelling}
 use Rattle.syntax.specs.Grammar.Stop.{close}
 use Rattle.syntax.specs.Grammar.Want.{number}
 use Rattle.syntax.specs.Reading.{Seen, Outcome, many, push, passed, opened}
 use Rattle.syntax.specs.Texts.{In}
 use Rattle.syntax.specs.Texts.In.{here, there}
-use Rattle.syntax.specs.Views.{Clean, Clear, from}
+use Rattle.syntax.specs.Views.{Clean, Clear, from, longer}
 use Rattle.syntax.specs.declared.reader.Reader.{Reader}
 use Rattle.syntax.specs.declared.grammar.Form.{Form}
-use Rattle.syntax.specs.declared.grammar.Form.the-variants.{Site, Bound}
+use Rattle.syntax.specs.declared.grammar.Form.the-variants.{Site, Bound, Num, Val, Lam, App, Boxed, Unbox, Here, Letd, Getb, Getd, Getn, Pair, Fst, Snd, Letcc, Throw, Go, Gauge, Gate, Below}
 use Rattle.syntax.specs.declared.grammar.Sort.{Sort}
-use Rattle.syntax.specs.declared.grammar.Sort.the-variants.{Worlds}
+use Rattle.syntax.specs.declared.grammar.Sort.the-variants.{Worlds, Terms}
 
 abbrev pub All : (Form → Type 0) → List Form → Type 0
 All P [] = Unit {0}
@@ -59,3 +59,70 @@ site-shut f n s e = subst (λ (g : Form). passed (close g) (push n (opened g s))
 
 pub bound-shut : (f : Form) (n : ℕ) (s : Seen) → f ≡ Bound → passed (close f) (push n (opened f s)) ≡ push 1 (push n s)
 bound-shut f n s e = subst (λ (g : Form). passed (close g) (push n (opened g s)) ≡ push 1 (push n s)) (sym e) (rw (back (s .depth)))
+
+-- a term with a world or with fewer than two parts, or one of the longer
+abbrev pub shorter : List Form
+shorter = Num ∷ Val ∷ Boxed ∷ Unbox ∷ Here ∷ Getb ∷ Getd ∷ Getn ∷ Fst ∷ Snd ∷ Gauge ∷ []
+
+pub in-longer : (f : Form) → In (spelling f) f (words Terms) → None-of shorter f → In (spelling f) f (spelled-out longer)
+in-longer f m = in-all (λ (g : Form). None-of shorter g → In (spelling g) g (spelled-out longer)) (spelling f) f (forms Terms) m (
+  λ h. absurd (h .0 refl),
+  (
+    λ h. absurd (h .1 .0 refl),
+    (
+      λ h. here,
+      (
+        λ h. there here,
+        (
+          λ h. absurd (h .1 .1 .0 refl),
+          (
+            λ h. absurd (h .1 .1 .1 .0 refl),
+            (
+              λ h. absurd (h .1 .1 .1 .1 .0 refl),
+              (
+                λ h. there (there here),
+                (
+                  λ h. absurd (h .1 .1 .1 .1 .1 .0 refl),
+                  (
+                    λ h. absurd (h .1 .1 .1 .1 .1 .1 .0 refl),
+                    (
+                      λ h. absurd (h .1 .1 .1 .1 .1 .1 .1 .0 refl),
+                      (
+                        λ h. there (there (there here)),
+                        (
+                          λ h. absurd (h .1 .1 .1 .1 .1 .1 .1 .1 .0 refl),
+                          (
+                            λ h. absurd (h .1 .1 .1 .1 .1 .1 .1 .1 .1 .0 refl),
+                            (
+                              λ h. there (there (there (there here))),
+                              (
+                                λ h. there (there (there (there (there here)))),
+                                (
+                                  λ h. there (there (there (there (there (there here))))),
+                                  (
+                                    λ h. absurd (h .1 .1 .1 .1 .1 .1 .1 .1 .1 .1 .0 refl),
+                                    (
+                                      λ h. there (there (there (there (there (there (there here)))))),
+                                      (
+                                        λ h. there (there (there (there (there (there (there (there here))))))),
+                                        tt,
+                                      ),
+                                    ),
+                                  ),
+                                ),
+                              ),
+                            ),
+                          ),
+                        ),
+                      ),
+                    ),
+                  ),
+                ),
+              ),
+            ),
+          ),
+        ),
+      ),
+    ),
+  ),
+)

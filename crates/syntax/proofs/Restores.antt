@@ -255,8 +255,8 @@ module _ (T : List Ty) (M : List Term) where
   -- what a form makes has that form, and its parts' text
   abbrev TypeAt : Form → List ℕ → Type 0
   TypeAt g vs = (k a b : ℕ) (x : List ℕ) →
-    (type-form (type-of (row g .make vs)) ≡ g) × (ty-row (row g .make vs) ≡ type-of (row g .make vs) ∷ []) × (own (row g .make vs) a b vs ≡ a ∷ [])
-    × (type-inner (type-of (row g .make vs)) (type-text k T) ++ last g ∷ x ≡ body g k (reverse vs) x)
+      (type-form (type-of (row g .make vs)) ≡ g) × (ty-row (row g .make vs) ≡ type-of (row g .make vs) ∷ []) × (own (row g .make vs) a b vs ≡ a ∷ [])
+      × (type-inner (type-of (row g .make vs)) (type-text k T) ++ last g ∷ x ≡ body g k (reverse vs) x)
 
   abbrev TypeText : Form → Type 0
   TypeText g = (vs : List ℕ) → length vs ≡ width (parts g) → TypeAt g vs
@@ -266,8 +266,8 @@ module _ (T : List Ty) (M : List Term) where
 
   abbrev TermAt : Form → List ℕ → Type 0
   TermAt g vs = (k a b : ℕ) (x : List ℕ) →
-    (term-form (term-of (row g .make vs)) ≡ g) × (tm-row (row g .make vs) ≡ term-of (row g .make vs) ∷ []) × (own (row g .make vs) a b vs ≡ b ∷ [])
-    × (term-inner (term-of (row g .make vs)) (type-text k T) (term-text k T M) ++ 41 ∷ x ≡ body g k (reverse vs) x)
+      (term-form (term-of (row g .make vs)) ≡ g) × (tm-row (row g .make vs) ≡ term-of (row g .make vs) ∷ []) × (own (row g .make vs) a b vs ≡ b ∷ [])
+      × (term-inner (term-of (row g .make vs)) (type-text k T) (term-text k T M) ++ 41 ∷ x ≡ body g k (reverse vs) x)
 
   abbrev TermText : Form → Type 0
   TermText g = (vs : List ℕ) → length vs ≡ width (parts g) → TermAt g vs
@@ -342,15 +342,16 @@ module _ (T : List Ty) (M : List Term) where
   WorldText g = (vs : List ℕ) → length vs ≡ width (parts g) → WorldAt g vs
 
   world-texts : All WorldText (forms Worlds)
-  world-texts =
-      (λ vs h. by1 (WorldAt Site) (λ n a b x. (refl, λ k. ap (λ (l : List ℕ). spelling Site ++ l) (append-assoc (decimal n) (41 ∷ []) x))) vs h,
-      (λ vs h. by1 (WorldAt Bound) (λ n a b x. (refl, λ k. ap (λ (l : List ℕ). spelling Bound ++ l) (append-assoc (decimal n) (41 ∷ []) x))) vs h, tt))
+  world-texts = (
+    λ vs h. by1 (WorldAt Site) (λ n a b x. (refl, λ k. ap (λ (l : List ℕ). spelling Site ++ l) (append-assoc (decimal n) (41 ∷ []) x))) vs h,
+    (λ vs h. by1 (WorldAt Bound) (λ n a b x. (refl, λ k. ap (λ (l : List ℕ). spelling Bound ++ l) (append-assoc (decimal n) (41 ∷ []) x))) vs h, tt),
+  )
 
   down : (k : ℕ) → 0 < k → k ≡ suc (k - 1)
   down k h = omega arith
 
   form-type : (g : Form) → In (spelling g) g (words Types) → (vs : List ℕ) → length vs ≡ width (parts g) → (k a : ℕ) → 0 < k → type-at T a ≡ type-of (row g .make vs) → (x : List ℕ) →
-    type-text k T a ++ x ≡ spelling g ++ body g (k - 1) (reverse vs) x
+      type-text k T a ++ x ≡ spelling g ++ body g (k - 1) (reverse vs) x
   form-type g m vs h k a pos e x =
       let t : Ty = type-of (row g .make vs) in
       let y : List ℕ = type-inner t (type-text (k - 1) T) in
@@ -362,7 +363,7 @@ module _ (T : List Ty) (M : List Term) where
       ∙ ap (λ (l : List ℕ). spelling g ++ l) (append-assoc y (last g ∷ []) x ∙ p .3)
 
   form-term : (g : Form) → In (spelling g) g (words Terms) → (vs : List ℕ) → length vs ≡ width (parts g) → (k b : ℕ) → 0 < k → term-at M b ≡ term-of (row g .make vs) → (x : List ℕ) →
-    term-text k T M b ++ x ≡ spelling g ++ body g (k - 1) (reverse vs) x
+      term-text k T M b ++ x ≡ spelling g ++ body g (k - 1) (reverse vs) x
   form-term g m vs h k b pos e x =
       let t : Term = term-of (row g .make vs) in
       let y : List ℕ = term-inner t (type-text (k - 1) T) (term-text (k - 1) T M) in
@@ -377,7 +378,7 @@ module _ (T : List Ty) (M : List Term) where
   module _ (g : Form) (vs : List ℕ) (w : length vs ≡ width (parts g)) (k a b : ℕ) (pos : 0 < k) (rest : List ℕ) where
     abbrev Part-is : Kind → Type 0
     Part-is kd = (x : List ℕ) → (part-text k (sub kd) (reverse (own (row g .make vs) a b vs) ++ rest) ++ x ≡ spelling g ++ body g (k - 1) (reverse vs) x)
-      × (drop (cells (sort-of kd)) (reverse (own (row g .make vs) a b vs) ++ rest) ≡ rest)
+        × (drop (cells (sort-of kd)) (reverse (own (row g .make vs) a b vs) ++ rest) ≡ rest)
 
     part-is : (kd : Kind) → In (spelling g) g (words (sort-of kd)) → Stands T a (ty-row (row g .make vs)) → Stands M b (tm-row (row g .make vs)) → Part-is kd
     part-is type m p q x =
@@ -394,7 +395,7 @@ module _ (T : List Ty) (M : List Term) where
 
   -- the parts of a tree are written as the tables have them
   pub written-laid : (t : Parts) (ps : List Part) → Fit t ps → (k : ℕ) → Enough t k → (a b : ℕ) → Stands T a (ty-rows t a b) → Stands M b (tm-rows t a b) → (f : Form) (bs : List ℕ) →
-    written f t bs ≡ laid k f ps (reverse (values t a b)) bs
+      written f t bs ≡ laid k f ps (reverse (values t a b)) bs
   written-laid none [] h k n a b p q f bs = refl
   written-laid none (x ∷ ps) h k n a b p q f bs = absurd h
   written-laid (number m r) [] h k n a b p q f bs = absurd h
@@ -419,7 +420,7 @@ module _ (T : List Ty) (M : List Term) where
       let qr : Stands M b2 (tm-rows r a2 b2) = stands-right M b1 (terms u) (tm-rows u a1 b1) (tm-rows r a2 b2) (tm-size u a1 b1) qu in
       let y : List ℕ = byte (sep f ps) ∷ laid k f ps later bs in
       let x-is : byte (stop-of f r) ∷ written f r bs ≡ y =
-            ap (λ (l : List ℕ). byte (stop-of f r) ∷ l) (written-laid r ps (h .2) k (n .2) a2 b2 pr qr f bs) ∙ ap (λ (c : ℕ). c ∷ laid k f ps later bs) (stop-sep f r ps (h .2)) in
+      ap (λ (l : List ℕ). byte (stop-of f r) ∷ l) (written-laid r ps (h .2) k (n .2) a2 b2 pr qr f bs) ∙ ap (λ (c : ℕ). c ∷ laid k f ps later bs) (stop-sep f r ps (h .2)) in
       let m : In (spelling g) g (words (sort-of kd)) = subst (λ (o : Sort). In (spelling g) g (words o)) (h .0) (listed g) in
       let c = part-is g vs (values-width u (parts g) a1 b1 (h .1)) k a b (n .0) later kd m (stands-left T a (ty-row mk) (ty-rows u a1 b1 ++ ty-rows r a2 b2) p) (stands-left M b (tm-row mk) (tm-rows u a1 b1 ++ tm-rows r a2 b2) q) y in
       ap (λ (x : List ℕ). spelling g ++ inside u (last g ∷ x) (written g u x)) x-is
@@ -457,12 +458,12 @@ text-right p r d =
     let T : List Ty = ty-rows (p .main) 0 0 in
     let M : List Term = tm-rows (p .main) 0 0 in
     let e : written Run (p .main) (10 ∷ []) ≡ laid T M 64 Run (sub term ∷ []) (reverse (values (p .main) 0 0)) (10 ∷ []) =
-          written-laid T M (p .main) (sub term ∷ []) (r .main) 64 (enough (p .main) (sub term ∷ []) (r .main) 64 d) 0 0 ([], sym (append-nil T)) ([], sym (append-nil M)) Run (10 ∷ []) in
+    written-laid T M (p .main) (sub term ∷ []) (r .main) 64 (enough (p .main) (sub term ∷ []) (r .main) 64 d) 0 0 ([], sym (append-nil T)) ([], sym (append-nil M)) Run (10 ∷ []) in
     let m : laid T M 64 Run (sub term ∷ []) (reverse (values (p .main) 0 0)) (10 ∷ []) ≡ term-text 64 T M 0 ++ 41 ∷ 10 ∷ [] =
-          ap (λ (l : List ℕ). laid T M 64 Run (sub term ∷ []) (reverse l) (10 ∷ [])) (main-number T M (p .main) (r .main) 0 0) in
+    ap (λ (l : List ℕ). laid T M 64 Run (sub term ∷ []) (reverse l) (10 ∷ [])) (main-number T M (p .main) (r .main) 0 0) in
     let w : codes "(run " ++ (decimal (p .start) ++ (codes " " ++ (term-text 64 T M 0 ++ codes ")\n"))) ≡ spelling Run ++ written Run (run-parts p) (10 ∷ []) =
-          ap (λ (l : List ℕ). spelling Run ++ (decimal (p .start) ++ 32 ∷ l)) (sym (e ∙ m))
-          ∙ ap (λ (c : ℕ). spelling Run ++ (decimal (p .start) ++ c ∷ written Run (p .main) (10 ∷ []))) (sym (stop-sep Run (p .main) (sub term ∷ []) (r .main))) in
+    ap (λ (l : List ℕ). spelling Run ++ (decimal (p .start) ++ 32 ∷ l)) (sym (e ∙ m))
+    ∙ ap (λ (c : ℕ). spelling Run ++ (decimal (p .start) ++ c ∷ written Run (p .main) (10 ∷ []))) (sym (stop-sep Run (p .main) (sub term ∷ []) (r .main))) in
     ap (λ (l : List ℕ). station-lines (p .stations) ++ l) w ∙ sym (stations-are (p .stations) (spelling Run ++ written Run (run-parts p) (10 ∷ [])))
 
 pub written-right : Written-right

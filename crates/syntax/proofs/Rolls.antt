@@ -34,7 +34,7 @@ module _ (k : List Want) (s : Seen) where
   alike l m i c bs e = go-cons c bs (word Further l ∷ k) s i ∙ ap (λ (x : List (List ℕ × Form)). moved bs i (spelled Further x k s i c)) e ∙ sym (go-cons c bs (word Further m ∷ k) s i)
 
   second : (i : ℕ) (bs : List ℕ) → (agreed (115 ∷ []) bs ≡ 1 → ⊥) →
-    go bs (word Further (after 40 (words Further)) ∷ k) s i ≡ go bs (word Further (after 40 (spelled-out (Run ∷ []))) ∷ k) s i
+      go bs (word Further (after 40 (words Further)) ∷ k) s i ≡ go bs (word Further (after 40 (spelled-out (Run ∷ []))) ∷ k) s i
   unfolding go
   second i [] n = refl
   second i (c ∷ bs) n = at (eqb c 115) refl n
@@ -44,7 +44,7 @@ module _ (k : List Want) (s : Seen) where
       at false e m = alike (after 40 (words Further)) (after 40 (spelled-out (Run ∷ []))) i c bs (simp e)
 
   pub line-run : (i : ℕ) (bs : List ℕ) → (agreed (40 ∷ 115 ∷ []) bs ≡ 2 → ⊥) →
-    go bs (word Further (words Further) ∷ k) s i ≡ go bs (word Further (spelled-out (Run ∷ [])) ∷ k) s i
+      go bs (word Further (words Further) ∷ k) s i ≡ go bs (word Further (spelled-out (Run ∷ [])) ∷ k) s i
   unfolding go
   line-run i [] n = refl
   line-run i (c ∷ bs) n = at (eqb c 40) refl n

@@ -21,7 +21,7 @@ down : (k : ℕ) → (k ≡ 0 → ⊥) → k ≡ suc (k - 1)
 down k h = omega arith
 
 pub type-more : (k : ℕ) (ts : List Ty) (n : ℕ) (node : Ty) (f : Form) (w : List ℕ) (b : ℕ) → (k ≡ 0 → ⊥) → node ≡ type-at ts n → f ≡ type-form node → w ≡ spelling f → b ≡ last f →
-  type-text k ts n ≡ w ++ (type-inner node (type-text (k - 1) ts) ++ b ∷ [])
+    type-text k ts n ≡ w ++ (type-inner node (type-text (k - 1) ts) ++ b ∷ [])
 type-more k ts n node f w b h p q r e =
     ap (λ (x : ℕ). type-text x ts n) (down k h)
     ∙ ap (λ (t : Ty). spelling (type-form t) ++ (type-inner t (type-text (k - 1) ts) ++ last (type-form t) ∷ [])) (sym p)
@@ -33,7 +33,7 @@ pub type-end : (k : ℕ) (ts : List Ty) (n : ℕ) → k ≡ 0 → type-text k ts
 type-end k ts n e = ap (λ (x : ℕ). type-text x ts n) e
 
 pub term-more : (k : ℕ) (ts : List Ty) (ms : List Term) (n : ℕ) (node : Term) (f : Form) (w : List ℕ) → (k ≡ 0 → ⊥) → node ≡ term-at ms n → f ≡ term-form node → w ≡ spelling f →
-  term-text k ts ms n ≡ w ++ (term-inner node (type-text (k - 1) ts) (term-text (k - 1) ts ms) ++ codes ")")
+    term-text k ts ms n ≡ w ++ (term-inner node (type-text (k - 1) ts) (term-text (k - 1) ts ms) ++ codes ")")
 term-more k ts ms n node f w h p q r =
     ap (λ (x : ℕ). term-text x ts ms n) (down k h)
     ∙ ap (λ (t : Term). spelling (term-form t) ++ (term-inner t (type-text (k - 1) ts) (term-text (k - 1) ts ms) ++ codes ")")) (sym p)

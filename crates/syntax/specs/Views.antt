@@ -182,3 +182,7 @@ term-parts (Below t a b l o) = o ∷ l ∷ b ∷ a ∷ t ∷ []
 abbrev pub line-form : Bool → Form
 line-form true = Station
 line-form false = Run
+
+-- the forms of terms with two parts or more, where a world is none
+abbrev pub longer : List Form
+longer = Form·Lam ∷ Form·App ∷ Form·Letd ∷ Form·Pair ∷ Form·Letcc ∷ Form·Throw ∷ Form·Go ∷ Form·Gate ∷ Form·Below ∷ []

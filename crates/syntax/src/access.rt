@@ -1,6 +1,5 @@
 // What a program's tables hold.
 ghost use mathlib.Core.Path.{_≡_};
-ghost use lib.ListN.{getD};
 ghost use Rattle.std.specs.Options.{Cases as BySome};
 ghost use Rattle.instruments.specs.Sheets.{stations-of};
 ghost use Rattle.syntax.specs.Place.{tables, place as place-of};
@@ -45,7 +44,11 @@ impl Program {
         ensures { λ r. ⌜ r ≡ type-at (tables (now (self .entry)) .types) number ⌝ }
     {
         let place = usize::from(number);
-        if place < self.types.len() { self.types[place] } else { Ty::Num }
+        if place < self.types.len() {
+            self.types[place]
+        } else {
+            Ty::Num
+        }
     }
 
     // The term with a number; one past the table is the number 0.
@@ -53,7 +56,11 @@ impl Program {
         ensures { λ r. ⌜ r ≡ term-at (tables (now (self .entry)) .terms) number ⌝ }
     {
         let place = usize::from(number);
-        if place < self.terms.len() { self.terms[place] } else { Term::Num(0) }
+        if place < self.terms.len() {
+            self.terms[place]
+        } else {
+            Term::Num(0)
+        }
     }
 }
 

@@ -20,7 +20,12 @@ impl Program {
     {
         let types = Vec::with_capacity(heap, 512)?;
         let terms = Vec::with_capacity(heap, 1024)?;
-        Ok(Program { types, terms, sheet: Sheet::new(), start: 0 })
+        Ok(Program {
+            types,
+            terms,
+            sheet: Sheet::new(),
+            start: 0,
+        })
     }
 
     // Takes everything out.

@@ -1,20 +1,16 @@
 // Reads types and terms into tables.
 ghost use mathlib.Core.Path.{_≡_};
-ghost use mathlib.Core.Bool.{true, false};
-ghost use mathlib.Core.List.{List, [], _∷_, _++_};
-ghost use Prim.Native.Nat.{ℕ, _+_, _<_, _≤_};
-ghost use lib.ListN.{length};
+ghost use mathlib.Core.Bool.{false};
+ghost use mathlib.Core.List.{List, _∷_, _++_};
+ghost use Prim.Native.Nat.{ℕ, _<_};
 ghost use Rattle.std.specs.Vec.{made};
-ghost use Rattle.syntax.specs.Grammar.{Want, words, wants, last as last-byte, spelling};
+ghost use Rattle.syntax.specs.Grammar.{Want, words, wants, last as last-byte, spelling, spelled-out};
 ghost use Rattle.syntax.specs.Grammar.Stop.{close, space};
 ghost use Rattle.syntax.specs.Grammar.Want.{stop as want-stop, number as want-number, item as want-item};
-ghost use Rattle.syntax.specs.Reading.{go as go-on, start-none};
-ghost use Rattle.syntax.specs.Reading.Outcome.{done};
 ghost use Rattle.syntax.specs.Texts.{In};
-ghost use Rattle.syntax.specs.Views.{Led, at, inside, seen, type-form, type-parts, term-form, term-parts, get-form, kind-of, count-of, line-form};
-ghost use Rattle.syntax.specs.Place.{tables};
-ghost use Rattle.syntax.specs.declared.grammar.Form.the-variants.{Throw, Go, Below, Station, Run};
-ghost use Rattle.syntax.specs.declared.grammar.Sort.the-variants.{Types, Terms, Worlds, First, Further};
+ghost use Rattle.syntax.specs.Views.{Led, at, inside, type-form, type-parts, term-form, term-parts, get-form, kind-of, count-of, longer};
+ghost use Rattle.syntax.specs.declared.grammar.Form.the-variants.{Throw, Go, Below};
+ghost use Rattle.syntax.specs.declared.grammar.Sort.the-variants.{Types, Terms, Worlds};
 use crate::grammar::Form;
 use crate::grammar::Sort;
 use crate::program::Mobile;
@@ -120,7 +116,11 @@ impl Reader<'_> {
     }
 
     // A world, a space and a term.
-    fn world_and_term(&mut self, draft: &mut Program, depth: usize) -> Result<(World, u16), TextFault>
+    fn world_and_term(
+        &mut self,
+        draft: &mut Program,
+        depth: usize,
+    ) -> Result<(World, u16), TextFault>
         ensures { λ r. ⌜ ((k : List Want) (vs : List ℕ) → Led r (at (now (self .entry)) (now (draft .entry)) (want-item Worlds ∷ want-stop space ∷ want-item Terms ∷ k) vs depth) (λ x. at (now (self .exit)) (now (draft .exit)) k (x .1 ∷ kind-of (x .0) ∷ count-of (x .0) ∷ vs) depth)) ⌝ }
     {
         let world = self.world(depth)?;
@@ -130,7 +130,11 @@ impl Reader<'_> {
     }
 
     // A number, a space and a term.
-    pub(crate) fn number_and_term(&mut self, draft: &mut Program, depth: usize) -> Result<(u16, u16), TextFault>
+    pub(crate) fn number_and_term(
+        &mut self,
+        draft: &mut Program,
+        depth: usize,
+    ) -> Result<(u16, u16), TextFault>
         ensures { λ r. ⌜ ((k : List Want) (vs : List ℕ) → Led r (at (now (self .entry)) (now (draft .entry)) (want-number false space ∷ want-item Terms ∷ k) vs depth) (λ x. at (now (self .exit)) (now (draft .exit)) k (x .1 ∷ x .0 ∷ vs) depth)) ⌝ }
     {
         let number = self.number(false)?;
@@ -145,7 +149,11 @@ impl Reader<'_> {
         ensures formed { λ r. ⌜ made r (λ t. term-form t ≡ get-form mobile) ⌝ }
     {
         let (world, part) = self.world_and_term(draft, depth)?;
-        Ok(Term::Get { mobile, world, part })
+        Ok(Term::Get {
+            mobile,
+            world,
+            part,
+        })
     }
 
     // The parts of a throw.
@@ -156,7 +164,11 @@ impl Reader<'_> {
         let written = self.ty(draft, depth)?;
         self.stop(b' ')?;
         let (continuation, part) = self.number_and_term(draft, depth)?;
-        Ok(Term::Throw { written, continuation, part })
+        Ok(Term::Throw {
+            written,
+            continuation,
+            part,
+        })
     }
 
     // The parts of a go.
@@ -167,7 +179,11 @@ impl Reader<'_> {
         let written = self.ty(draft, depth)?;
         self.stop(b' ')?;
         let (world, part) = self.world_and_term(draft, depth)?;
-        Ok(Term::Go { written, world, part })
+        Ok(Term::Go {
+            written,
+            world,
+            part,
+        })
     }
 
     // The parts of a comparison.
@@ -180,19 +196,28 @@ impl Reader<'_> {
         let (left, right) = self.two_terms(draft, depth)?;
         self.stop(b' ')?;
         let (less, otherwise) = self.two_terms(draft, depth)?;
-        Ok(Term::Below { written, left, right, less, otherwise })
+        Ok(Term::Below {
+            written,
+            left,
+            right,
+            less,
+            otherwise,
+        })
     }
 
-    // A term's parts.
-    fn term_parts(&mut self, draft: &mut Program, form: Form, depth: usize) -> Result<Term, TextFault>
-        requires form { ⌜ In (spelling form) form (words Terms) ⌝ }
+    // The parts of a term that has two parts or more, its world aside.
+    fn more_parts(
+        &mut self,
+        draft: &mut Program,
+        form: Form,
+        depth: usize,
+    ) -> Result<Term, TextFault>
+        requires form { ⌜ In (spelling form) form (spelled-out longer) ⌝ }
         requires room { ⌜ (last-byte form ≡ 41 → depth < 64) ⌝ }
         ensures led { λ r. ⌜ ((k : List Want) (vs : List ℕ) → Led r (inside (now (self .entry)) (now (draft .entry)) form (wants form k) vs depth) (λ t. inside (now (self .exit)) (now (draft .exit)) form (want-stop (close form) ∷ k) (term-parts t ++ vs) depth)) ⌝ }
         ensures formed { λ r. ⌜ made r (λ t. term-form t ≡ form) ⌝ }
     {
         match form {
-            Form::Num => Ok(Term::Num(self.number(false)?)),
-            Form::Val => Ok(Term::Value(self.number(false)?)),
             Form::Lam => {
                 let (written, body) = self.type_and_term(draft, depth + 1)?;
                 Ok(Term::Lam { written, body })
@@ -201,35 +226,54 @@ impl Reader<'_> {
                 let (function, argument) = self.two_terms(draft, depth + 1)?;
                 Ok(Term::App { function, argument })
             }
-            Form::Boxed => Ok(Term::Boxed(self.term(draft, depth + 1)?)),
-            Form::Unbox => Ok(Term::Unbox(self.term(draft, depth + 1)?)),
-            Form::Here => Ok(Term::Here(self.term(draft, depth + 1)?)),
             Form::Letd => {
                 let (address, body) = self.two_terms(draft, depth + 1)?;
                 Ok(Term::Letd { address, body })
             }
-            Form::Getb => self.get(draft, Mobile::Code, depth + 1),
-            Form::Getd => self.get(draft, Mobile::Address, depth + 1),
-            Form::Getn => self.get(draft, Mobile::Number, depth + 1),
             Form::Pair => {
                 let (left, right) = self.two_terms(draft, depth + 1)?;
                 Ok(Term::Pair { left, right })
             }
-            Form::Fst => Ok(Term::Fst(self.term(draft, depth + 1)?)),
-            Form::Snd => Ok(Term::Snd(self.term(draft, depth + 1)?)),
             Form::Letcc => {
                 let (written, body) = self.type_and_term(draft, depth + 1)?;
                 Ok(Term::Letcc { written, body })
             }
             Form::Throw => self.throw(draft, depth + 1),
             Form::Go => self.go(draft, depth + 1),
-            Form::Gauge => Ok(Term::Gauge(self.number(false)?)),
             Form::Gate => {
                 let (number, part) = self.number_and_term(draft, depth + 1)?;
                 Ok(Term::Gate { number, part })
             }
             Form::Below => self.below(draft, depth + 1),
             _ => unreachable(),
+        }
+    }
+
+    // A term's parts.
+    fn term_parts(
+        &mut self,
+        draft: &mut Program,
+        form: Form,
+        depth: usize,
+    ) -> Result<Term, TextFault>
+        requires form { ⌜ In (spelling form) form (words Terms) ⌝ }
+        requires room { ⌜ (last-byte form ≡ 41 → depth < 64) ⌝ }
+        ensures led { λ r. ⌜ ((k : List Want) (vs : List ℕ) → Led r (inside (now (self .entry)) (now (draft .entry)) form (wants form k) vs depth) (λ t. inside (now (self .exit)) (now (draft .exit)) form (want-stop (close form) ∷ k) (term-parts t ++ vs) depth)) ⌝ }
+        ensures formed { λ r. ⌜ made r (λ t. term-form t ≡ form) ⌝ }
+    {
+        match form {
+            Form::Num => Ok(Term::Num(self.number(false)?)),
+            Form::Val => Ok(Term::Value(self.number(false)?)),
+            Form::Boxed => Ok(Term::Boxed(self.term(draft, depth + 1)?)),
+            Form::Unbox => Ok(Term::Unbox(self.term(draft, depth + 1)?)),
+            Form::Here => Ok(Term::Here(self.term(draft, depth + 1)?)),
+            Form::Getb => self.get(draft, Mobile::Code, depth + 1),
+            Form::Getd => self.get(draft, Mobile::Address, depth + 1),
+            Form::Getn => self.get(draft, Mobile::Number, depth + 1),
+            Form::Fst => Ok(Term::Fst(self.term(draft, depth + 1)?)),
+            Form::Snd => Ok(Term::Snd(self.term(draft, depth + 1)?)),
+            Form::Gauge => Ok(Term::Gauge(self.number(false)?)),
+            _ => self.more_parts(draft, form, depth),
         }
     }
 

@@ -21,7 +21,11 @@ impl Text {
     {
         let program = Program::new(heap)?;
         let draft = Program::new(heap)?;
-        Ok(Text { program, draft, full: false })
+        Ok(Text {
+            program,
+            draft,
+            full: false,
+        })
     }
 
     // Reads a text. One that is refused leaves the place as it was. `refuses` and `accepts`: a text is refused exactly by the first

@@ -20,7 +20,14 @@ impl Sort {
         ensures { λ r. ⌜ now r ≡ sort-forms self ⌝ }
     {
         match self {
-            Sort::Types => &[Form::TNum, Form::TNone, Form::TFn, Form::TBox, Form::TAt, Form::TBoth],
+            Sort::Types => &[
+                Form::TNum,
+                Form::TNone,
+                Form::TFn,
+                Form::TBox,
+                Form::TAt,
+                Form::TBoth,
+            ],
             Sort::Worlds => &[Form::Site, Form::Bound],
             Sort::Terms => &[
                 Form::Num,

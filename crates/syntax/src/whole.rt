@@ -1,21 +1,19 @@
 // Reads the lines of a text.
 ghost use mathlib.Core.Path.{_≡_};
 ghost use mathlib.Core.Bool.{true, false};
-ghost use mathlib.Core.List.{List, [], _∷_, _++_};
-ghost use Prim.Native.Nat.{ℕ, _+_, _<_, _≤_};
+ghost use mathlib.Core.List.{List, [], _∷_};
+ghost use Prim.Native.Nat.{ℕ, _+_, _<_};
 ghost use lib.Dec.{leb};
 ghost use lib.ListN.{length};
 ghost use Rattle.std.specs.Vec.{made};
-ghost use Rattle.syntax.specs.Grammar.{Want, words, wants, last as last-byte, spelling};
-ghost use Rattle.syntax.specs.Grammar.Stop.{close, space};
-ghost use Rattle.syntax.specs.Grammar.Want.{stop as want-stop, number as want-number, item as want-item};
+ghost use Rattle.syntax.specs.Grammar.{Want, wants};
+ghost use Rattle.syntax.specs.Grammar.Want.{item as want-item};
 ghost use Rattle.syntax.specs.Reading.{Seen, go as go-on, start-none, opened};
 ghost use Rattle.syntax.specs.Reading.Outcome.{done};
-ghost use Rattle.syntax.specs.Texts.{In};
-ghost use Rattle.syntax.specs.Views.{Led, from, at, inside, seen, type-form, type-parts, term-form, term-parts, get-form, kind-of, count-of, line-form};
+ghost use Rattle.syntax.specs.Views.{Led, from, at, inside, seen, line-form};
 ghost use Rattle.syntax.specs.Place.{tables};
-ghost use Rattle.syntax.specs.declared.grammar.Form.the-variants.{Throw, Go, Below, Station, Run};
-ghost use Rattle.syntax.specs.declared.grammar.Sort.the-variants.{Types, Terms, Worlds, First, Further};
+ghost use Rattle.syntax.specs.declared.grammar.Form.the-variants.{Station, Run};
+ghost use Rattle.syntax.specs.declared.grammar.Sort.the-variants.{First, Further};
 use crate::grammar::Form;
 use crate::grammar::Sort;
 use crate::reader::Reader;

@@ -86,7 +86,14 @@ impl World {
 }
 
 impl Program {
-    fn put_two_types(&self, pen: &mut Pen, out: &mut [u8], first: u16, second: u16, left: usize) -> Result<(), Short>
+    fn put_two_types(
+        &self,
+        pen: &mut Pen,
+        out: &mut [u8],
+        first: u16,
+        second: u16,
+        left: usize,
+    ) -> Result<(), Short>
         ensures { λ r. ⌜ Writes (now (pen .entry)) (now (out .entry)) (spaced (type-text left (tables (now (self .entry)) .types) first) (type-text left (tables (now (self .entry)) .types) second)) r (now (pen .exit)) (now (out .exit)) ⌝ }
     {
         self.put_type(pen, out, first, left)?;
@@ -94,7 +101,13 @@ impl Program {
         self.put_type(pen, out, second, left)
     }
 
-    fn put_type_parts(&self, pen: &mut Pen, out: &mut [u8], node: Ty, left: usize) -> Result<(), Short>
+    fn put_type_parts(
+        &self,
+        pen: &mut Pen,
+        out: &mut [u8],
+        node: Ty,
+        left: usize,
+    ) -> Result<(), Short>
         ensures { λ r. ⌜ Writes (now (pen .entry)) (now (out .entry)) (type-inner node (type-text left (tables (now (self .entry)) .types))) r (now (pen .exit)) (now (out .exit)) ⌝ }
     {
         match node {
@@ -108,7 +121,13 @@ impl Program {
     }
 
     // The type with a number, to a depth.
-    pub(crate) fn put_type(&self, pen: &mut Pen, out: &mut [u8], number: u16, left: usize) -> Result<(), Short>
+    pub(crate) fn put_type(
+        &self,
+        pen: &mut Pen,
+        out: &mut [u8],
+        number: u16,
+        left: usize,
+    ) -> Result<(), Short>
         ensures { λ r. ⌜ Writes (now (pen .entry)) (now (out .entry)) (type-text left (tables (now (self .entry)) .types) number) r (now (pen .exit)) (now (out .exit)) ⌝ }
     {
         if left == 0 {
@@ -121,7 +140,14 @@ impl Program {
         pen.word(out, &[form.last()])
     }
 
-    fn put_two_terms(&self, pen: &mut Pen, out: &mut [u8], first: u16, second: u16, left: usize) -> Result<(), Short>
+    fn put_two_terms(
+        &self,
+        pen: &mut Pen,
+        out: &mut [u8],
+        first: u16,
+        second: u16,
+        left: usize,
+    ) -> Result<(), Short>
         ensures { λ r. ⌜ Writes (now (pen .entry)) (now (out .entry)) (spaced (term-text left (tables (now (self .entry)) .types) (tables (now (self .entry)) .terms) first) (term-text left (tables (now (self .entry)) .types) (tables (now (self .entry)) .terms) second)) r (now (pen .exit)) (now (out .exit)) ⌝ }
     {
         self.put_term(pen, out, first, left)?;
@@ -129,7 +155,14 @@ impl Program {
         self.put_term(pen, out, second, left)
     }
 
-    fn put_type_and_term(&self, pen: &mut Pen, out: &mut [u8], written: u16, part: u16, left: usize) -> Result<(), Short>
+    fn put_type_and_term(
+        &self,
+        pen: &mut Pen,
+        out: &mut [u8],
+        written: u16,
+        part: u16,
+        left: usize,
+    ) -> Result<(), Short>
         ensures { λ r. ⌜ Writes (now (pen .entry)) (now (out .entry)) (spaced (type-text left (tables (now (self .entry)) .types) written) (term-text left (tables (now (self .entry)) .types) (tables (now (self .entry)) .terms) part)) r (now (pen .exit)) (now (out .exit)) ⌝ }
     {
         self.put_type(pen, out, written, left)?;
@@ -137,7 +170,14 @@ impl Program {
         self.put_term(pen, out, part, left)
     }
 
-    fn put_world_and_term(&self, pen: &mut Pen, out: &mut [u8], world: World, part: u16, left: usize) -> Result<(), Short>
+    fn put_world_and_term(
+        &self,
+        pen: &mut Pen,
+        out: &mut [u8],
+        world: World,
+        part: u16,
+        left: usize,
+    ) -> Result<(), Short>
         ensures { λ r. ⌜ Writes (now (pen .entry)) (now (out .entry)) (spaced (world-text world) (term-text left (tables (now (self .entry)) .types) (tables (now (self .entry)) .terms) part)) r (now (pen .exit)) (now (out .exit)) ⌝ }
     {
         world.put(pen, out)?;
@@ -145,7 +185,14 @@ impl Program {
         self.put_term(pen, out, part, left)
     }
 
-    fn put_number_and_term(&self, pen: &mut Pen, out: &mut [u8], number: u16, part: u16, left: usize) -> Result<(), Short>
+    fn put_number_and_term(
+        &self,
+        pen: &mut Pen,
+        out: &mut [u8],
+        number: u16,
+        part: u16,
+        left: usize,
+    ) -> Result<(), Short>
         ensures { λ r. ⌜ Writes (now (pen .entry)) (now (out .entry)) (spaced (decimal number) (term-text left (tables (now (self .entry)) .types) (tables (now (self .entry)) .terms) part)) r (now (pen .exit)) (now (out .exit)) ⌝ }
     {
         pen.number(out, number as usize)?;
@@ -153,7 +200,15 @@ impl Program {
         self.put_term(pen, out, part, left)
     }
 
-    fn put_throw(&self, pen: &mut Pen, out: &mut [u8], written: u16, continuation: u16, part: u16, left: usize) -> Result<(), Short>
+    fn put_throw(
+        &self,
+        pen: &mut Pen,
+        out: &mut [u8],
+        written: u16,
+        continuation: u16,
+        part: u16,
+        left: usize,
+    ) -> Result<(), Short>
         ensures { λ r. ⌜ Writes (now (pen .entry)) (now (out .entry)) (spaced (type-text left (tables (now (self .entry)) .types) written) (spaced (decimal continuation) (term-text left (tables (now (self .entry)) .types) (tables (now (self .entry)) .terms) part))) r (now (pen .exit)) (now (out .exit)) ⌝ }
     {
         self.put_type(pen, out, written, left)?;
@@ -161,7 +216,15 @@ impl Program {
         self.put_number_and_term(pen, out, continuation, part, left)
     }
 
-    fn put_go(&self, pen: &mut Pen, out: &mut [u8], written: u16, world: World, part: u16, left: usize) -> Result<(), Short>
+    fn put_go(
+        &self,
+        pen: &mut Pen,
+        out: &mut [u8],
+        written: u16,
+        world: World,
+        part: u16,
+        left: usize,
+    ) -> Result<(), Short>
         ensures { λ r. ⌜ Writes (now (pen .entry)) (now (out .entry)) (spaced (type-text left (tables (now (self .entry)) .types) written) (spaced (world-text world) (term-text left (tables (now (self .entry)) .types) (tables (now (self .entry)) .terms) part))) r (now (pen .exit)) (now (out .exit)) ⌝ }
     {
         self.put_type(pen, out, written, left)?;
@@ -170,7 +233,14 @@ impl Program {
     }
 
     // Four terms, each two with a space between.
-    fn put_four_terms(&self, pen: &mut Pen, out: &mut [u8], pair: (u16, u16), ways: (u16, u16), left: usize) -> Result<(), Short>
+    fn put_four_terms(
+        &self,
+        pen: &mut Pen,
+        out: &mut [u8],
+        pair: (u16, u16),
+        ways: (u16, u16),
+        left: usize,
+    ) -> Result<(), Short>
         ensures { λ r. ⌜ Writes (now (pen .entry)) (now (out .entry)) (spaced (spaced (term-text left (tables (now (self .entry)) .types) (tables (now (self .entry)) .terms) (pair .0)) (term-text left (tables (now (self .entry)) .types) (tables (now (self .entry)) .terms) (pair .1))) (spaced (term-text left (tables (now (self .entry)) .types) (tables (now (self .entry)) .terms) (ways .0)) (term-text left (tables (now (self .entry)) .types) (tables (now (self .entry)) .terms) (ways .1)))) r (now (pen .exit)) (now (out .exit)) ⌝ }
     {
         self.put_two_terms(pen, out, pair.0, pair.1, left)?;
@@ -178,7 +248,15 @@ impl Program {
         self.put_two_terms(pen, out, ways.0, ways.1, left)
     }
 
-    fn put_below(&self, pen: &mut Pen, out: &mut [u8], written: u16, pair: (u16, u16), ways: (u16, u16), left: usize) -> Result<(), Short>
+    fn put_below(
+        &self,
+        pen: &mut Pen,
+        out: &mut [u8],
+        written: u16,
+        pair: (u16, u16),
+        ways: (u16, u16),
+        left: usize,
+    ) -> Result<(), Short>
         ensures { λ r. ⌜ Writes (now (pen .entry)) (now (out .entry)) (spaced (type-text left (tables (now (self .entry)) .types) written) (spaced (spaced (term-text left (tables (now (self .entry)) .types) (tables (now (self .entry)) .terms) (pair .0)) (term-text left (tables (now (self .entry)) .types) (tables (now (self .entry)) .terms) (pair .1))) (spaced (term-text left (tables (now (self .entry)) .types) (tables (now (self .entry)) .terms) (ways .0)) (term-text left (tables (now (self .entry)) .types) (tables (now (self .entry)) .terms) (ways .1))))) r (now (pen .exit)) (now (out .exit)) ⌝ }
     {
         self.put_type(pen, out, written, left)?;
@@ -186,35 +264,69 @@ impl Program {
         self.put_four_terms(pen, out, pair, ways, left)
     }
 
-    fn put_term_parts(&self, pen: &mut Pen, out: &mut [u8], node: Term, left: usize) -> Result<(), Short>
+    fn put_term_parts(
+        &self,
+        pen: &mut Pen,
+        out: &mut [u8],
+        node: Term,
+        left: usize,
+    ) -> Result<(), Short>
         ensures { λ r. ⌜ Writes (now (pen .entry)) (now (out .entry)) (term-inner node (type-text left (tables (now (self .entry)) .types)) (term-text left (tables (now (self .entry)) .types) (tables (now (self .entry)) .terms))) r (now (pen .exit)) (now (out .exit)) ⌝ }
     {
         match node {
             Term::Num(number) => pen.number(out, number as usize),
             Term::Value(count) => pen.number(out, count as usize),
             Term::Lam { written, body } => self.put_type_and_term(pen, out, written, body, left),
-            Term::App { function, argument } => self.put_two_terms(pen, out, function, argument, left),
+            Term::App { function, argument } => self.put_two_terms(
+                pen,
+                out,
+                function,
+                argument,
+                left,
+            ),
             Term::Boxed(part) => self.put_term(pen, out, part, left),
             Term::Unbox(part) => self.put_term(pen, out, part, left),
             Term::Here(part) => self.put_term(pen, out, part, left),
             Term::Letd { address, body } => self.put_two_terms(pen, out, address, body, left),
-            Term::Get { mobile: _, world, part } => self.put_world_and_term(pen, out, world, part, left),
+            Term::Get {
+                mobile: _,
+                world,
+                part,
+            } => self.put_world_and_term(pen, out, world, part, left),
             Term::Pair { left: first, right } => self.put_two_terms(pen, out, first, right, left),
             Term::Fst(part) => self.put_term(pen, out, part, left),
             Term::Snd(part) => self.put_term(pen, out, part, left),
             Term::Letcc { written, body } => self.put_type_and_term(pen, out, written, body, left),
-            Term::Throw { written, continuation, part } => self.put_throw(pen, out, written, continuation, part, left),
-            Term::Go { written, world, part } => self.put_go(pen, out, written, world, part, left),
+            Term::Throw {
+                written,
+                continuation,
+                part,
+            } => self.put_throw(pen, out, written, continuation, part, left),
+            Term::Go {
+                written,
+                world,
+                part,
+            } => self.put_go(pen, out, written, world, part, left),
             Term::Gauge(number) => pen.number(out, number as usize),
             Term::Gate { number, part } => self.put_number_and_term(pen, out, number, part, left),
-            Term::Below { written, left: first, right, less, otherwise } => {
-                self.put_below(pen, out, written, (first, right), (less, otherwise), left)
-            }
+            Term::Below {
+                written,
+                left: first,
+                right,
+                less,
+                otherwise,
+            } => { self.put_below(pen, out, written, (first, right), (less, otherwise), left) }
         }
     }
 
     // The term with a number, to a depth.
-    pub(crate) fn put_term(&self, pen: &mut Pen, out: &mut [u8], number: u16, left: usize) -> Result<(), Short>
+    pub(crate) fn put_term(
+        &self,
+        pen: &mut Pen,
+        out: &mut [u8],
+        number: u16,
+        left: usize,
+    ) -> Result<(), Short>
         ensures { λ r. ⌜ Writes (now (pen .entry)) (now (out .entry)) ((term-text left (tables (now (self .entry)) .types) (tables (now (self .entry)) .terms) number)) r (now (pen .exit)) (now (out .exit)) ⌝ }
     {
         if left == 0 {

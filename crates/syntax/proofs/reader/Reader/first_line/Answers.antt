@@ -12,4 +12,4 @@ use Rattle.syntax.proofs.reader.Reader.first_line.Needs as need
 
 pub returns : need.returns
 returns c = λ k s d. c .in-Continue-first .ensures tt .led k s d ∙ c .in-Continue-word .ensures tt .led k s (clear-all First s (λ b. refl) (words First))
-  ∙ ap (λ (f : Form). from (c .word .last .self) (wants f k) (opened f s)) (in-all (λ (f : Form). f ≡ Station) _ _ (Station ∷ []) (c .in-Continue-word .ensures tt .picked .0) (refl, tt))
+    ∙ ap (λ (f : Form). from (c .word .last .self) (wants f k) (opened f s)) (in-all (λ (f : Form). f ≡ Station) _ _ (Station ∷ []) (c .in-Continue-word .ensures tt .picked .0) (refl, tt))

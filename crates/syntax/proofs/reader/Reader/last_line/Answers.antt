@@ -24,4 +24,4 @@ returns-in-Break-pick c = λ k s h. exit _ _ (c .from-residual-in-Break-pick .en
 
 pub returns : need.returns
 returns c = λ k s h. line-run k s _ _ (λ e. c .if-agree-eq2 .left (sym (ap (agreed (40 ∷ 115 ∷ [])) (sym (take-rest (c .args .self .now .text .now) (c .args .self .now .place))) ∙ sym (c .agree .ensures)) ∙ e)) ∙ c .in-Continue-pick .ensures tt .led Further k s (tt, tt) (run-clear s)
-  ∙ ap (λ (f : Form). from (c .pick .last .self) (wants f k) (opened f s)) (in-all (λ (f : Form). f ≡ Run) _ _ (Run ∷ []) (c .in-Continue-pick .ensures tt .picked .0) (refl, tt))
+    ∙ ap (λ (f : Form). from (c .pick .last .self) (wants f k) (opened f s)) (in-all (λ (f : Form). f ≡ Run) _ _ (Run ∷ []) (c .in-Continue-pick .ensures tt .picked .0) (refl, tt))

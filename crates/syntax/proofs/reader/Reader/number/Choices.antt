@@ -12,8 +12,8 @@ use Rattle.syntax.proofs.reader.Reader.number.Given as given
 abbrev pub Inv-loop-c : given.InvT-loop-c
 Inv-loop-c l =
     ((a : Stop) (k : List Want) (s : Seen) → digit (byte a) ≡ false →
-      from (l .entry .self) (digits (l .counts) (l .start) (l .entry .value) a ∷ k) s
-      ≡ from (l .self) (digits (l .counts) (l .start) (l .value) a ∷ k) s)
+    from (l .entry .self) (digits (l .counts) (l .start) (l .entry .value) a ∷ k) s
+    ≡ from (l .self) (digits (l .counts) (l .start) (l .value) a ∷ k) s)
     × (l .value < 65536) × (l .counts ≡ true → l .value ≤ 32)
 
 abbrev pub μ-loop-c : given.MeasureT-loop-c

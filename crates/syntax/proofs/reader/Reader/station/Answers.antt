@@ -13,6 +13,7 @@ use Rattle.syntax.proofs.reader.Reader.station.Needs as need
 pub returns : need.returns
 returns c = record {
   led = λ k vs. c .in-Continue-gauges .ensures tt .led space _ _ refl ∙ c .in-Continue-stop .ensures tt space _ _ refl ∙ c .in-Continue-gates .ensures tt .led (close Station) _ _ refl
-    ∙ c .in-Continue-stop-2 .ensures tt (close Station) _ _ refl ∙ c .in-Continue-stop-3 .ensures tt line _ _ refl
-    ∙ ap (λ (q : Tables). from (c .stop-3 .last .self) (item Further ∷ k) (seen q vs 0)) (sym (c .add-station .ensures));
-  more = ap (λ (q : Tables). length (q .stations)) (c .add-station .ensures) ∙ length-append (tables (c .args .draft .now) .stations) _ }
+      ∙ c .in-Continue-stop-2 .ensures tt (close Station) _ _ refl ∙ c .in-Continue-stop-3 .ensures tt line _ _ refl
+      ∙ ap (λ (q : Tables). from (c .stop-3 .last .self) (item Further ∷ k) (seen q vs 0)) (sym (c .add-station .ensures));
+  more = ap (λ (q : Tables). length (q .stations)) (c .add-station .ensures) ∙ length-append (tables (c .args .draft .now) .stations) _;
+}

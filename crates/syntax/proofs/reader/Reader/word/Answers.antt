@@ -14,4 +14,5 @@ use Rattle.syntax.proofs.reader.Reader.word.Needs as need
 pub returns : need.returns
 returns c = record {
   led = λ k s free. subst (λ (fs : List Form). Apart (spelled-out fs) → Clear (c .args .sort) s (spelled-out fs) → Led (c .pick .result) (from (c .args .self .now) (word (c .args .sort) (spelled-out fs) ∷ k) s) (λ f. from (c .pick .last .self) (wants f k) (opened f s))) (c .forms .ensures) (c .pick .ensures .led (c .args .sort) k s) (words-apart (c .args .sort)) free;
-  picked = subst (λ (fs : List Form). made (c .pick .result) (λ f. In (spelling f) f (spelled-out fs) × (last f ≡ 41 → getD (rest (c .args .self .now)) 0 0 ≡ 40))) (c .forms .ensures) (c .pick .ensures .picked) }
+  picked = subst (λ (fs : List Form). made (c .pick .result) (λ f. In (spelling f) f (spelled-out fs) × (last f ≡ 41 → getD (rest (c .args .self .now)) 0 0 ≡ 40))) (c .forms .ensures) (c .pick .ensures .picked);
+}

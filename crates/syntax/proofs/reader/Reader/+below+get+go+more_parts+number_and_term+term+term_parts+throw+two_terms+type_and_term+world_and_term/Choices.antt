@@ -1,5 +1,5 @@
 use Prim.Native.Nat.{_-_, _*_, _+_}
-use Rattle.syntax.proofs.reader.Reader.+below+get+go+number_and_term+term+term_parts+throw+two_terms+type_and_term+world_and_term.Given as given
+use Rattle.syntax.proofs.reader.Reader.+below+get+go+more_parts+number_and_term+term+term_parts+throw+two_terms+type_and_term+world_and_term.Given as given
 
 abbrev pub μ-below : given.MeasureT-below
 μ-below l = 5 * (64 - l .depth) + 4
@@ -30,3 +30,6 @@ abbrev pub μ-type-and-term : given.MeasureT-type-and-term
 
 abbrev pub μ-world-and-term : given.MeasureT-world-and-term
 μ-world-and-term l = 5 * (64 - l .depth) + 3
+
+abbrev pub μ-more-parts : given.MeasureT-more-parts
+μ-more-parts l = 5 * (64 - l .depth)
