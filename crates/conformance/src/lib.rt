@@ -9,3 +9,5 @@ mod refusals;
 mod surveys;
 #[cfg(test)]
 mod texts;
+#[cfg(test)]
+mod checks;
