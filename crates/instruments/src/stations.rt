@@ -35,7 +35,8 @@ impl Sheet {
         ensures value { λ r. ⌜ r ≡ length (stations-of (now (self .entry))) ⌝ }
         ensures bound { λ r. ⌜ r ≤ 16 ⌝ }
     {
-        self.count
+        let standing = self.count;
+        standing
     }
 
     // The station of a site.
