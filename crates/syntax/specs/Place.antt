@@ -32,6 +32,7 @@ pub record Tables : Type 0 where
   pub stations : List Station
   pub start : ℕ
 
+-- what the tables of a program hold
 abbrev pub tables : Program → Tables
 tables p = record { types = vec-items (p .types); terms = vec-items (p .terms); stations = stations-of (p .sheet); start = p .start }
 
@@ -39,15 +40,19 @@ tables p = record { types = vec-items (p .types); terms = vec-items (p .terms); 
 abbrev pub blank : Tables
 blank = record { types = []; terms = []; stations = []; start = 0 }
 
+-- the tables with other types
 abbrev pub with-types : Tables → List Ty → Tables
 with-types t l = record { types = l; terms = t .terms; stations = t .stations; start = t .start }
 
+-- the tables with other terms
 abbrev pub with-terms : Tables → List Term → Tables
 with-terms t l = record { types = t .types; terms = l; stations = t .stations; start = t .start }
 
+-- the tables with other stations
 abbrev pub with-stations : Tables → List Station → Tables
 with-stations t l = record { types = t .types; terms = t .terms; stations = l; start = t .start }
 
+-- the tables with another start
 abbrev pub with-start : Tables → ℕ → Tables
 with-start t n = record { types = t .types; terms = t .terms; stations = t .stations; start = n }
 
@@ -66,6 +71,7 @@ pub data Place : Type 0 where
   empty : Place
   full : Tables → Place
 
+-- a place is full once a text was read
 abbrev pub place : Text → Place
 place t = cond (t .full) (full (tables (t .program))) empty
 
@@ -77,6 +83,7 @@ tables-of s = record { types = s .tys; terms = s .tms; stations = s .stations; s
 abbrev pub fault : ℕ → ℕ → TextFault
 fault n p = cond (eqb n 10) TooLong (cond (eqb n 11) (Grammar p) (cond (eqb n 12) (TooDeep p) (cond (eqb n 13) (TooMany p) (Sheet p))))
 
+-- an outcome as the call answers it
 abbrev pub answer : Outcome → Result Unit Refusal
 answer (done s) = Ok tt
 answer (refused n p) = Err (Text·fault (fault n p))
@@ -85,6 +92,7 @@ answer (refused n p) = Err (Text·fault (fault n p))
 abbrev pub answered : List ℕ → Result Unit Refusal
 answered bs = answer (read bs)
 
+-- a place after an outcome: a refusal leaves it
 abbrev pub filled : Place → Outcome → Place
 filled q (done s) = full (tables-of s)
 filled q (refused n p) = q

@@ -28,9 +28,11 @@ use Rattle.syntax.specs.declared.program.Term.the-variants.{Num, Value, Lam, A
 abbrev pub spaced : List ℕ → List ℕ → List ℕ
 spaced a b = a ++ (codes " " ++ b)
 
+-- the type n; one past the table is a number's
 abbrev pub type-at : List Ty → ℕ → Ty
 type-at ts n = getD ts n Ty·Num
 
+-- the term n; one past the table is the number 0
 abbrev pub term-at : List Term → ℕ → Term
 term-at ms n = getD ms n (Num 0)
 
@@ -48,6 +50,7 @@ abbrev pub type-text : ℕ → List Ty → ℕ → List ℕ
 type-text zero ts n = []
 type-text (suc k) ts n = spelling (type-form (type-at ts n)) ++ (type-inner (type-at ts n) (type-text k ts) ++ last (type-form (type-at ts n)) ∷ [])
 
+-- the text of a world
 abbrev pub world-text : World → List ℕ
 world-text (Site n) = codes "(site " ++ (decimal n ++ codes ")")
 world-text (Bound n) = codes "(w " ++ (decimal n ++ codes ")")
@@ -78,9 +81,11 @@ abbrev pub term-text : ℕ → List Ty → List Term → ℕ → List ℕ
 term-text zero ts ms n = []
 term-text (suc k) ts ms n = spelling (term-form (term-at ms n)) ++ (term-inner (term-at ms n) (type-text k ts) (term-text k ts ms) ++ codes ")")
 
+-- the line of a station
 abbrev pub station-line : Station → List ℕ
 station-line h = codes "(station " ++ (decimal (h .gauges) ++ (codes " " ++ (decimal (h .gates) ++ codes ")\n")))
 
+-- the lines of the stations in order
 abbrev pub station-lines : List Station → List ℕ
 station-lines [] = []
 station-lines (h ∷ hs) = station-line h ++ station-lines hs

@@ -82,6 +82,7 @@ abbrev pub Clean : Sort → Seen → List ℕ → Type 0
 Clean o s [] = Unit {0}
 Clean o s (b ∷ w) = (many o b s ≡ false) × Clean o s w
 
+-- none of the words has such a byte
 abbrev pub Clear : Sort → Seen → List (List ℕ × Form) → Type 0
 Clear o s [] = Unit {0}
 Clear o s ((w, f) ∷ ks) = Clean o s w × Clear o s ks
@@ -99,6 +100,7 @@ abbrev pub kind-of : World → ℕ
 kind-of (Site n) = 0
 kind-of (Bound n) = 1
 
+-- the number that a world has
 abbrev pub count-of : World → ℕ
 count-of (Site n) = n
 count-of (Bound n) = n
@@ -124,6 +126,7 @@ type-form (Boxed a) = TBox
 type-form (At a) = TAt
 type-form (Both a b) = TBoth
 
+-- the values of a type's parts, the last first
 abbrev pub type-parts : Ty → List ℕ
 type-parts Num = []
 type-parts Never = []
@@ -138,6 +141,7 @@ get-form Code = Getb
 get-form Address = Getd
 get-form Number = Getn
 
+-- the form that a term has
 abbrev pub term-form : Term → Form
 term-form (Term·Num n) = Form·Num
 term-form (Value n) = Val
@@ -158,6 +162,7 @@ term-form (Gauge n) = Form·Gauge
 term-form (Gate n a) = Form·Gate
 term-form (Below t a b l o) = Form·Below
 
+-- the values of a term's parts, the last first
 abbrev pub term-parts : Term → List ℕ
 term-parts (Term·Num n) = n ∷ []
 term-parts (Value n) = n ∷ []

@@ -18,6 +18,11 @@ use crate::grammar::Sort;
 use crate::program::World;
 use lines::refusal::TextFault;
 
+// How many brackets may be open, the largest number, and the largest count of registers.
+const DEEPEST: usize = 64;
+const LARGEST: u32 = 65535;
+const MOST: u32 = 32;
+
 #[derive(Drop)]
 pub(crate) struct Reader<'a> {
     pub(crate) text: &'a [u8],
@@ -69,10 +74,10 @@ impl Reader<'_> {
                 return Ok(value as u16);
             }
             value = value * 10 + u32::from(c - b'0');
-            if value > 65535 {
+            if value > LARGEST {
                 return Err(TextFault::Grammar(self.place));
             }
-            if counts && value > 32 {
+            if counts && value > MOST {
                 return Err(TextFault::Sheet(start));
             }
             self.place += 1;
@@ -88,7 +93,7 @@ impl Reader<'_> {
         if !sort.begins(c) {
             return Err(TextFault::Grammar(self.place));
         }
-        if c == b'(' && depth >= 64 {
+        if c == b'(' && depth >= DEEPEST {
             return Err(TextFault::TooDeep(self.place));
         }
         Ok(())

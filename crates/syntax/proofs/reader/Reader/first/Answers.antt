@@ -26,8 +26,8 @@ returns-then-not-begins c = record {
   room = tt;
 }
 
-pub returns-then-depth-ge64 : need.returns-then-depth-ge64
-returns-then-depth-ge64 c = record {
+pub returns-then-depth-ge-DEEPEST : need.returns-then-depth-ge-DEEPEST
+returns-then-depth-ge-DEEPEST c = record {
   led = λ k s d. item-deep _ _ (c .args .sort) k s _ _ (c .in-Continue-c .ensures tt .0) (c .if-c-eq40 .taken) (omega arith);
   room = tt;
 }

@@ -11,7 +11,7 @@ use Rattle.syntax.proofs.Steps.{number-refuses, number-zero, number-some, digi
 use Rattle.std.proofs.shelf.Results.{made-from-err}
 use Rattle.syntax.proofs.Exits.{exit, told-grammar}
 use Rattle.syntax.proofs.reader.Reader.number.Needs as need
-use Rattle.syntax.proofs.reader.Reader.number.Needs.{else-counts·by·then-counts·else-value-gt32, else-counts·by·else-counts}
+use Rattle.syntax.proofs.reader.Reader.number.Needs.{else-counts·by·then-counts·else-value-gt-MOST, else-counts·by·else-counts}
 
 pub returns-in-Break-c : need.returns-in-Break-c
 returns-in-Break-c c = record {
@@ -47,25 +47,25 @@ returns-then-not-is-ascii-digit-2 c = record {
       ∙ c .loop-c .inv .0 a k s g ∙ digits-stop _ _ _ a k s _ _ (c .in-Continue-c-2 .ensures tt .0) _ _ g (sym (c .if-not-is-ascii-digit-2 .ensures tt .value));
 }
 
-pub returns-then-value-gt65535 : need.returns-then-value-gt65535
-returns-then-value-gt65535 c = record {
+pub returns-then-value-gt-LARGEST : need.returns-then-value-gt-LARGEST
+returns-then-value-gt-LARGEST c = record {
   few = tt;
   led = λ a k s g. number-some _ _ _ a k s _ _ (c .in-Continue-c .ensures tt .0) (sym (c .if-not-is-ascii-digit .ensures tt .value)) (λ e. c .if-value-eq0 .left (omega arith)) _ (c .from-value .ensures)
-      ∙ c .loop-c .inv .0 a k s g ∙ digits-large _ _ _ a k s _ _ (c .in-Continue-c-2 .ensures tt .0) _ _ g (sym (c .if-not-is-ascii-digit-2 .ensures tt .value)) _ (c .from .ensures) (c .if-value-gt65535 .taken);
+      ∙ c .loop-c .inv .0 a k s g ∙ digits-large _ _ _ a k s _ _ (c .in-Continue-c-2 .ensures tt .0) _ _ g (sym (c .if-not-is-ascii-digit-2 .ensures tt .value)) _ (c .from .ensures) (c .if-value-gt-LARGEST .taken);
 }
 
-pub returns-then-value-gt32 : need.returns-then-value-gt32
-returns-then-value-gt32 c = record {
+pub returns-then-value-gt-MOST : need.returns-then-value-gt-MOST
+returns-then-value-gt-MOST c = record {
   few = tt;
   led = λ a k s g. number-some _ _ _ a k s _ _ (c .in-Continue-c .ensures tt .0) (sym (c .if-not-is-ascii-digit .ensures tt .value)) (λ e. c .if-value-eq0 .left (omega arith)) _ (c .from-value .ensures)
       ∙ c .loop-c .inv .0 a k s g ∙ digits-sheet _ _ _ a k s _ _ (c .in-Continue-c-2 .ensures tt .0) _ _ g (sym (c .if-not-is-ascii-digit-2 .ensures tt .value)) _ (c .from .ensures) (omega arith)
-      (and-from _ _ (c .if-counts .taken) (lt-ltb 32 _ (c .if-value-gt32 .taken)));
+      (and-from _ _ (c .if-counts .taken) (lt-ltb 32 _ (c .if-value-gt-MOST .taken)));
 }
 
 pub loop-c-again : need.loop-c-again
 loop-c-again c = (
   (λ a k s g. c .loop-c .inv .0 a k s g ∙ digits-on _ _ _ a k s _ _ (c .in-Continue-c-2 .ensures tt .0) _ _ g (sym (c .if-not-is-ascii-digit-2 .ensures tt .value)) _ (c .from .ensures) (omega arith)
-      (elim (c .else-counts .came) [ else-counts·by·then-counts·else-value-gt32 w ↦ and-right (c .args .counts) _ (le-ltb 32 _ (w .if-value-gt32 .left)) | else-counts·by·else-counts w ↦ and-left (c .args .counts) _ (w .if-counts .left) ])),
+      (elim (c .else-counts .came) [ else-counts·by·then-counts·else-value-gt-MOST w ↦ and-right (c .args .counts) _ (le-ltb 32 _ (w .if-value-gt-MOST .left)) | else-counts·by·else-counts w ↦ and-left (c .args .counts) _ (w .if-counts .left) ])),
   omega arith,
-  λ k. elim (c .else-counts .came) [ else-counts·by·then-counts·else-value-gt32 w ↦ omega (arith, w .if-value-gt32 .left) | else-counts·by·else-counts w ↦ absurd (both-ways (c .args .counts) (w .if-counts .left) k) ],
+  λ k. elim (c .else-counts .came) [ else-counts·by·then-counts·else-value-gt-MOST w ↦ omega (arith, w .if-value-gt-MOST .left) | else-counts·by·else-counts w ↦ absurd (both-ways (c .args .counts) (w .if-counts .left) k) ],
 )
