@@ -14,7 +14,7 @@ struct Desk {
     program: Accepted,
 }
 
-fn desk(rt: &LibcRuntime) -> Result<Desk, AllocError> {
+fn empty_desk(rt: &LibcRuntime) -> Result<Desk, AllocError> {
     let heap = rt.alloc();
     Ok(Desk { text: Text::new(heap)?, scopes: ScopeList::new(heap)?, program: Accepted::new(heap)? })
 }
@@ -32,7 +32,7 @@ fn outcome(desk: &mut Desk, bytes: &[u8]) -> (u16, usize) {
 
 #[test]
 fn accepted(rt: LibcRuntime) -> Result<(), Fail> {
-    let mut d = desk(&rt)?;
+    let mut d = empty_desk(&rt)?;
     check_eq(outcome(&mut d, b"(station 1 0)\n(station 0 1)\n(run 1 (gate 0 (getn (site 0) (gauge 0))))\n"), (0, 0))?;
     check_eq(outcome(&mut d, b"(station 1 0)\n(run 0 (letd (here (num 7)) (getn (w 0) (v 0))))\n"), (0, 0))?;
     check_eq(outcome(&mut d, b"(station 1 0)\n(run 0 (lam (at (box num)) (letd (v 0) (getb (w 0) (v 0)))))\n"), (0, 0))?;
@@ -44,7 +44,7 @@ fn accepted(rt: LibcRuntime) -> Result<(), Fail> {
 
 #[test]
 fn refused(rt: LibcRuntime) -> Result<(), Fail> {
-    let mut d = desk(&rt)?;
+    let mut d = empty_desk(&rt)?;
     check_eq(outcome(&mut d, b"(station 1 0)\n(run 0 (letd (here (num 7)) (v 0)))\n"), (21, 3))?;
     check_eq(outcome(&mut d, b"(station 1 0)\n(run 0 (go num (site 0) (num 1)))\n"), (22, 1))?;
     check_eq(outcome(&mut d, b"(station 1 0)\n(run 0 (box (gauge 0)))\n"), (23, 1))?;
@@ -58,7 +58,7 @@ fn refused(rt: LibcRuntime) -> Result<(), Fail> {
 // Parts are held to their types in the order of the text, and a world and a count come before the part.
 #[test]
 fn order(rt: LibcRuntime) -> Result<(), Fail> {
-    let mut d = desk(&rt)?;
+    let mut d = empty_desk(&rt)?;
     check_eq(outcome(&mut d, b"(station 1 0)\n(run 0 (app (num 1) (v 0)))\n"), (22, 1))?;
     check_eq(outcome(&mut d, b"(station 1 0)\n(run 0 (getn (site 1) (v 0)))\n"), (20, 0))?;
     check_eq(outcome(&mut d, b"(station 1 0)\n(run 0 (throw num 0 (v 0)))\n"), (20, 0))?;
@@ -69,7 +69,7 @@ fn order(rt: LibcRuntime) -> Result<(), Fail> {
 
 #[test]
 fn a_refusal_inside_binders_leaves_nothing_bound(rt: LibcRuntime) -> Result<(), Fail> {
-    let mut d = desk(&rt)?;
+    let mut d = empty_desk(&rt)?;
     let mut out = [0u8; 64];
     check_eq(match check_program(&d.text, &mut d.scopes, &mut d.program) { Ok(()) => (0, 0), Err(refusal) => refusal.code() }, (25, 0))?;
     check_eq(outcome(&mut d, b"(station 1 0)\n(run 0 (lam num (letcc num (box (v 1)))))\n"), (20, 3))?;
