@@ -7,3 +7,4 @@ pub mod Rows
 pub mod Binders
 pub mod Opening
 pub mod Whole
+pub mod Laying

@@ -35,6 +35,7 @@ use Rattle.checker.specs.Concluding.{Sound, Clear, Concluded}
 use Rattle.checker.specs.Concluding as Concluding
 use Rattle.checker.specs.Judging as Judging
 use Rattle.checker.proofs.Verdicts.{needs-met, needs-unmet}
+use Rattle.checker.proofs.Laying.{laid-tests}
 
 -- sizes by either definition
 same-parts : (f : ℕ → ℕ) (r : TermRow) → with-parts f r ≡ syntax-parts f r
@@ -157,7 +158,8 @@ module _ (t : Tables) (c : Context) (sound : Sound t) (rows : rows-of c ≡ t .t
   answers-whole : (r : Result ℕ CheckFault) (more : ℕ) (d : Context) → t .start < length (t .stations) → Same c d → Judging.Answers c (verdict c (t .stations) (t .terms) 0 (Site (t .start))) r more d → Concluding.Answers t r d
   answers-whole (Ok n) more d h s a =
       (whole-verdict h ∙ a .verdict,
-       ap (λ w. take w (rows-of d)) (s .kept .written ∙ written ∙ sym (ap length rows)) ∙ a .grown .front ∙ rows)
+       ap (λ w. take w (rows-of d)) (s .kept .written ∙ written ∙ sym (ap length rows)) ∙ a .grown .front ∙ rows,
+       laid-tests (d .written) (rows-of d) n (a .grown .laid) (a .number))
   answers-whole (Err e) more d h s a = whole-verdict h ∙ a
 
   pub whole-concluded : {stations : List Station} {terms : List TermRow} {start more : ℕ} {r : Result ℕ CheckFault} {d : Context}

@@ -21,11 +21,11 @@ use Rattle.syntax.specs.declared.program.World.the-variants.{Site, Bound}
 use Rattle.syntax.specs.declared.program.Term.{Term}
 use Rattle.syntax.specs.declared.program.Term.the-variants as Term·row
 
-both : (a b : Bool) → a && b ≡ true → (a ≡ true) × (b ≡ true)
+pub both : (a b : Bool) → a && b ≡ true → (a ≡ true) × (b ≡ true)
 both true b e = (refl, e)
 both false b e = let z : _≡_ {A = ℕ} 0 1 = cc in absurd (omega arith)
 
-and : {a b : Bool} → a ≡ true → b ≡ true → a && b ≡ true
+pub and : {a b : Bool} → a ≡ true → b ≡ true → a && b ≡ true
 and {a} {b} p q = ap (λ x. x && b) p ∙ q
 
 inside-says : (low high n : ℕ) → inside low high n ≡ true → Inside low high n
@@ -48,7 +48,7 @@ world-tests : (w : World) → World-sound w → world-test w ≡ true
 world-tests (Site n) h = small-tests n h
 world-tests (Bound n) h = small-tests n h
 
-type-says : (low high : ℕ) (r : Ty) → type-test low high r ≡ true → Ty-sound low high r
+pub type-says : (low high : ℕ) (r : Ty) → type-test low high r ≡ true → Ty-sound low high r
 type-says low high Ty·row.Num e = tt
 type-says low high Ty·row.Never e = tt
 type-says low high (Ty·row.Fn a b) e = let p0 = both (inside low high a) (inside low high b) e in (inside-says low high a (p0 .0), inside-says low high b (p0 .1))
@@ -56,7 +56,7 @@ type-says low high (Ty·row.Boxed a) e = inside-says low high a e
 type-says low high (Ty·row.At a) e = inside-says low high a e
 type-says low high (Ty·row.Both a b) e = let p0 = both (inside low high a) (inside low high b) e in (inside-says low high a (p0 .0), inside-says low high b (p0 .1))
 
-type-tests : (low high : ℕ) (r : Ty) → Ty-sound low high r → type-test low high r ≡ true
+pub type-tests : (low high : ℕ) (r : Ty) → Ty-sound low high r → type-test low high r ≡ true
 type-tests low high Ty·row.Num h = refl
 type-tests low high Ty·row.Never h = refl
 type-tests low high (Ty·row.Fn a b) h = and (inside-tests low high a (h .0)) (inside-tests low high b (h .1))
@@ -104,14 +104,14 @@ term-tests types low high (Term·row.Gauge n) h = small-tests n h
 term-tests types low high (Term·row.Gate n a) h = and (small-tests n (h .0)) (inside-tests low high a (h .1))
 term-tests types low high (Term·row.Below t a b x y) h = and (lt-ltb t types (h .0)) (and (inside-tests low high a (h .1)) (and (inside-tests low high b (h .2)) (and (inside-tests low high x (h .3)) (inside-tests low high y (h .4)))))
 
-each-says : {A : Type 0} (f : ℕ → A → Bool) (k : ℕ) (xs : List A) (d : A) → each-row f k xs ≡ true → (n : ℕ) → n < length xs → f (k + n) (getD xs n d) ≡ true
+pub each-says : {A : Type 0} (f : ℕ → A → Bool) (k : ℕ) (xs : List A) (d : A) → each-row f k xs ≡ true → (n : ℕ) → n < length xs → f (k + n) (getD xs n d) ≡ true
 each-says f k [] d e n h = absurd (omega arith)
 each-says f k (x ∷ xs) d e zero h = let q : k + 0 ≡ k = omega arith in ap (λ m. f m x) q ∙ both (f k x) (each-row f (suc k) xs) e .0
 each-says f k (x ∷ xs) d e (suc n) h =
     let q : k + suc n ≡ suc k + n = omega arith in
     ap (λ m. f m (getD xs n d)) q ∙ each-says f (suc k) xs d (both (f k x) (each-row f (suc k) xs) e .1) n (omega arith)
 
-each-tests : {A : Type 0} (f : ℕ → A → Bool) (k : ℕ) (xs : List A) (d : A) → ((n : ℕ) → n < length xs → f (k + n) (getD xs n d) ≡ true) → each-row f k xs ≡ true
+pub each-tests : {A : Type 0} (f : ℕ → A → Bool) (k : ℕ) (xs : List A) (d : A) → ((n : ℕ) → n < length xs → f (k + n) (getD xs n d) ≡ true) → each-row f k xs ≡ true
 each-tests f k [] d h = refl
 each-tests f k (x ∷ xs) d h =
     let q : k + 0 ≡ k = omega arith in
