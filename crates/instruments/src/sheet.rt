@@ -14,8 +14,8 @@ pub struct Station {
 // The stations of a works, of which the first `count` stand: at most 16, each with at most 32 gauges and 32 gates.
 #[derive(Clone, Copy)]
 pub struct Sheet {
-    count: usize,
-    stations: [Station; 16],
+    pub(crate) count: usize,
+    pub(crate) stations: [Station; 16],
     ghost few: { (count ≤ 16) × (length stations ≡ 16) },
     ghost fitted: { Fitted stations },
 }
