@@ -7,10 +7,10 @@ use Rattle.machine.specs.Sound.{EnvironmentIn}
 use Rattle.machine.proofs.Walks.{place}
 use Rattle.machine.proofs.parts.Store.bound_at.Given as given
 
-abbrev pub Inv-loop-place : given.InvT-loop-place
-Inv-loop-place l =
+abbrev pub Inv-loop-at : given.InvT-loop-at
+Inv-loop-at l =
     EnvironmentIn (length (vec-items (l .self .cells))) (l .at)
     × (sought (l .kind) (environment-of (meanings (vec-items (l .self .cells))) (l .at)) (l .left) ≡ sought (l .kind) (environment-of (meanings (vec-items (l .self .cells))) (l .entry .at)) (l .entry .left))
 
-abbrev pub μ-loop-place : given.MeasureT-loop-place
-μ-loop-place l = place (l .at)
+abbrev pub μ-loop-at : given.MeasureT-loop-at
+μ-loop-at l = place (l .at)
