@@ -8,3 +8,5 @@ pub mod Sound
 pub mod Store
 -- what is found in a chain of bindings
 pub mod Lookups
+-- what a step answers
+pub mod Answers

@@ -1,5 +1,7 @@
 // The machine that runs a program's tables: its store, and its steps. Nothing is public yet.
+mod evaluate;
 mod lookups;
 mod parts;
+mod rules;
 mod sites;
 mod store;

@@ -3,7 +3,10 @@ ghost use mathlib.Core.Path.{_≡_};
 ghost use Prim.Native.Nat.{ℕ, _+_, _<_, _≤_};
 ghost use lib.ListN.{length};
 ghost use Rattle.std.specs.Of.Vec.{vec-items};
-ghost use Rattle.calculus.specs.Machine.{site-of};
+ghost use mathlib.Core.Bool.{true};
+ghost use mathlib.Core.Option.{some};
+ghost use Rattle.calculus.specs.Machine.{site-of, continuation-at};
+ghost use Rattle.machine.specs.Answers.{is-some};
 ghost use Rattle.machine.specs.Meaning.{meanings, environment-of};
 ghost use Rattle.machine.specs.Sound.{Each, CellIn, EnvironmentIn, BoundIn};
 ghost use Rattle.machine.specs.Store.{reads};
@@ -56,5 +59,42 @@ impl Store {
             at = rest;
         }
         None
+    }
+
+    // The site of a world that is bound.
+    pub(crate) fn site_of(&self, environment: Environment, world: World) -> u16
+        requires cells { ⌜ Each (λ i c. CellIn (vec-items (now self .cells)) i c) (vec-items (now self .cells)) ⌝ }
+        requires environment { ⌜ EnvironmentIn (length (vec-items (now self .cells))) environment ⌝ }
+        requires bound { ⌜ is-some (site-of (environment-of (meanings (vec-items (now self .cells))) environment) world) ≡ true ⌝ }
+        ensures { λ r. ⌜ site-of (environment-of (meanings (vec-items (now (self .entry) .cells))) environment) world ≡ some r ⌝ }
+    {
+        match world {
+            World::Site(site) => site,
+            World::Bound(count) => {
+                let Some(bound) = self.bound_at(environment, Kind::World, count) else {
+                    unreachable()
+                };
+                let Bound::World(site) = bound else {
+                    unreachable()
+                };
+                site
+            }
+        }
+    }
+
+    // The site and the number of a continuation that is bound.
+    pub(crate) fn kept_of(&self, environment: Environment, count: u16) -> (u16, u16)
+        requires cells { ⌜ Each (λ i c. CellIn (vec-items (now self .cells)) i c) (vec-items (now self .cells)) ⌝ }
+        requires environment { ⌜ EnvironmentIn (length (vec-items (now self .cells))) environment ⌝ }
+        requires bound { ⌜ is-some (continuation-at (environment-of (meanings (vec-items (now self .cells))) environment) count) ≡ true ⌝ }
+        ensures { λ r. ⌜ continuation-at (environment-of (meanings (vec-items (now (self .entry) .cells))) environment) count ≡ some (r .0, r .1) ⌝ }
+    {
+        let Some(bound) = self.bound_at(environment, Kind::Continuation, count) else {
+            unreachable()
+        };
+        let Bound::Continuation { site, kept } = bound else {
+            unreachable()
+        };
+        (site, kept)
     }
 }

@@ -123,9 +123,16 @@ pub(crate) enum Instrument {
     Gate,
 }
 
+// A gauge or a gate that does not answer.
+#[derive(Clone, Copy)]
+pub(crate) struct Unanswered {
+    pub(crate) instrument: Instrument,
+    pub(crate) fault: RegisterFault,
+}
+
 // Why there is no step: a table is full, or a register does not answer.
 #[derive(Clone, Copy)]
 pub(crate) enum StepFault {
     Full(Table),
-    Register { instrument: Instrument, fault: RegisterFault },
+    Register(Unanswered),
 }
