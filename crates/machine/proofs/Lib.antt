@@ -6,3 +6,4 @@ pub mod Frames
 pub mod Cells
 pub mod Binds
 pub mod Rows
+pub mod Looks

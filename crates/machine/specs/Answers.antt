@@ -59,6 +59,11 @@ answered (Machine.stepped L u e) (some κ) = full κ
 answered (Machine.silent κ s n) l = met κ s n
 answered Machine.stuck l = broken
 
+-- a register's answer, with what kind of register it is
+abbrev pub unanswered : {A : Type 0} → Coded → Result A RegisterFault → Result A Unanswered
+unanswered i (Ok a) = Ok a
+unanswered i (Err f) = Err (record { instrument = i; fault = f })
+
 -- The register that does not answer is silent.
 abbrev MetBy : Coded → RegisterFault → Answer → Type 0
 MetBy i (Silent w n) a = a ≡ met (instrument-of i) w n
@@ -118,6 +123,10 @@ module _ (v : Works) (s : State) where
   -- at a site with the continuation that it keeps
   abbrev pub resuming : ℕ → ℕ → Phase → Answer
   resuming w c p = answered (Machine.resume v (sites-of s) (s .site) (places-of s) w (phase-of (cells-of s) p) (entry (sites-of s .kept) w c)) (lacking no-place (state-of s))
+
+  -- at another site, over `abort`
+  abbrev pub leaving : ℕ → ℕ → Environment → Answer
+  leaving w a e = answered (Machine.stepped (Machine.state (sites-of s) w Machine.abort (Machine.eval a (scope s e)) (places-of s)) v quiet) (lacking no-place (state-of s))
 
   -- the number that a gauge shows
   abbrev pub gauged : ℕ → Machine.Outcome

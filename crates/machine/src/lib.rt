@@ -2,6 +2,7 @@
 mod evaluate;
 mod lookups;
 mod parts;
+mod registers;
 mod rules;
 mod sites;
 mod store;
