@@ -7,3 +7,6 @@ pub mod Cells
 pub mod Binds
 pub mod Rows
 pub mod Looks
+pub mod Asks
+pub mod Evaluating
+pub mod Sorts

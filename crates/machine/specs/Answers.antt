@@ -13,7 +13,7 @@ use Rattle.machine.specs.declared.parts.Unanswered.{Unanswered}
 use Rattle.calculus.specs.Machine
 use Rattle.calculus.specs.Step.{Works, Instrument, a-gauge, a-gate, Event, quiet}
 use Rattle.syntax.specs.declared.program.Term.{Term as TermRow}
-use Rattle.calculus.specs.Limits.{takes, row-rule, lacking, a-frame, a-binding, two-bindings, a-pair, a-published, a-kept, a-binding-and-kept, no-place}
+use Rattle.calculus.specs.Limits.{takes, row-rule, frame-rule, lacking, a-frame, a-binding, two-bindings, a-pair, a-published, a-kept, a-binding-and-kept, no-place}
 use Rattle.calculus.specs.Tables.{Table as Tabled, count, entry}
 use Rattle.calculus.specs.Program.{Program}
 use Rattle.std.specs.declared.option.Option.{Option as Maybe}
@@ -103,6 +103,42 @@ abbrev pub is-some : {A : Type 0} → Option A → Bool
 is-some nothing = false
 is-some (some a) = true
 
+-- the kinds of values
+abbrev pub is-number : Machine.Value → Bool
+is-number (Machine.number n) = true
+is-number (Machine.function p ρ) = false
+is-number (Machine.code p ρ) = false
+is-number (Machine.address s l) = false
+is-number (Machine.pair a b) = false
+
+abbrev pub is-function : Machine.Value → Bool
+is-function (Machine.number n) = false
+is-function (Machine.function p ρ) = true
+is-function (Machine.code p ρ) = false
+is-function (Machine.address s l) = false
+is-function (Machine.pair a b) = false
+
+abbrev pub is-code : Machine.Value → Bool
+is-code (Machine.number n) = false
+is-code (Machine.function p ρ) = false
+is-code (Machine.code p ρ) = true
+is-code (Machine.address s l) = false
+is-code (Machine.pair a b) = false
+
+abbrev pub is-address : Machine.Value → Bool
+is-address (Machine.number n) = false
+is-address (Machine.function p ρ) = false
+is-address (Machine.code p ρ) = false
+is-address (Machine.address s l) = true
+is-address (Machine.pair a b) = false
+
+abbrev pub is-pair : Machine.Value → Bool
+is-pair (Machine.number n) = false
+is-pair (Machine.function p ρ) = false
+is-pair (Machine.code p ρ) = false
+is-pair (Machine.address s l) = false
+is-pair (Machine.pair a b) = true
+
 -- what a works shows, gauges and gates
 abbrev pub shown : Tabled (Maybe ℕ) → Tabled (Maybe ℕ) → Works
 shown g n = record { gauges = g; gates = n }
@@ -138,6 +174,13 @@ module _ (v : Works) (s : State) where
 
   abbrev pub evaluated : ℕ → Environment → TermRow → Answer
   evaluated p e r = answered (row-stepped p e r) (lacking (takes (row-rule r)) (state-of s))
+
+  -- back with a value to a task over `next`
+  abbrev pub framed : Program → Continuation → Value → Task → Machine.Outcome
+  framed P next u t = Machine.frame-step v (sites-of s) (s .site) (places-of s) P (over s next) (held s u) (task-of (cells-of s) t)
+
+  abbrev pub worked : Program → Continuation → Value → Task → Answer
+  worked P next u t = answered (framed P next u t) (lacking (takes (frame-rule (task-of (cells-of s) t))) (state-of s))
 
   -- a frame is pushed over `next`, and a part is evaluated
   abbrev pub pushing : Task → Continuation → ℕ → Environment → Answer

@@ -1,4 +1,5 @@
 // The machine that runs a program's tables: its store, and its steps. Nothing is public yet.
+mod back;
 mod evaluate;
 mod lookups;
 mod parts;
