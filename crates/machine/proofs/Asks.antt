@@ -7,7 +7,7 @@ use Prim.Native.Nat.{ℕ, zero, suc, _+_, _<_, _≤_}
 use native.Mathlib.Omega.{arith}
 use borrow.Author.Tests.{lt-ltb, le-ltb}
 use lib.Dec.{ltb}
-use lib.ListN.{length, getD, getElem?}
+use lib.ListN.{length, getD, getElem?, set}
 use Rattle.std.specs.declared.option.Option.{Option as Maybe}
 use Rattle.std.specs.declared.option.Option.the-variants.{Some, None}
 use Rattle.std.specs.declared.result.Result.{Result}
@@ -49,4 +49,22 @@ shown-told s n x (some (Some y)) e = let q : y ≡ x = cc in ap (λ z. some (Som
 
 -- a set that is answered puts the number there
 pub set-put : (rows : Shown) (s n v x : ℕ) → asked rows s n ≡ Ok x → set-after rows s n v ≡ put rows s n (Some v)
-set-put rows s n v x e = ap (λ r. lib.ListN.set rows s (row-after r (row rows s) n v)) e
+set-put rows s n v x e = ap (λ r. set rows s (row-after r (row rows s) n v)) e
+
+-- the register's own answer, out of a set's
+pub done-err : (r : Result ℕ RegisterFault) (f : RegisterFault) → done r ≡ Err f → r ≡ Err f
+done-err (Ok x) f e = absurd (let z : _≡_ {A = ℕ} 0 1 = cc in omega arith)
+done-err (Err g) f e = let q : g ≡ f = cc in ap Err q
+
+pub done-ok : (r : Result ℕ RegisterFault) → done r ≡ Ok tt → (x : ℕ) × (r ≡ Ok x)
+done-ok (Ok x) e = (x, refl)
+done-ok (Err g) e = absurd (let z : _≡_ {A = ℕ} 0 1 = cc in omega arith)
+
+set-own : (rows : Shown) (s : ℕ) → set rows s (row rows s) ≡ rows
+set-own [] s = refl
+set-own (r ∷ rows) zero = refl
+set-own (r ∷ rows) (suc s) = ap (λ q. r ∷ q) (set-own rows s)
+
+-- a set that is refused leaves all as it was
+pub set-none : (rows : Shown) (s n v : ℕ) (f : RegisterFault) → asked rows s n ≡ Err f → set-after rows s n v ≡ rows
+set-none rows s n v f e = ap (λ r. set rows s (row-after r (row rows s) n v)) e ∙ set-own rows s

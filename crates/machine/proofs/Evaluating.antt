@@ -28,7 +28,8 @@ use Rattle.machine.proofs.Asks.{told, asked-told, shown-told}
 use Rattle.machine.specs.declared.parts.Environment.{Environment}
 use Rattle.machine.specs.declared.parts.Phase.the-variants as Now
 use Rattle.machine.specs.declared.parts.State.{State}
-use Rattle.machine.specs.declared.parts.Instrument.the-variants.{Gauge}
+use Rattle.machine.specs.declared.parts.Instrument.the-variants.{Gauge, Gate}
+use Rattle.machine.specs.declared.parts.Continuation.{Continuation}
 
 get-takes : (f : Mobile) → takes (get-rule f) ≡ a-kept
 get-takes Code = refl
@@ -72,3 +73,19 @@ fault-of i u (Err f) e = (f, refl, cc)
 pub answer-of : {A : Type 0} (i : Coded) (a : A) (r : Result A RegisterFault) → Ok a ≡ unanswered i r → r ≡ Ok a
 answer-of i a (Ok b) e = let q : b ≡ a = cc in ap Ok q
 answer-of i a (Err f) e = absurd (let z : _≡_ {A = ℕ} 0 1 = cc in omega arith)
+
+-- the same of gates
+module _ (v : Works) (s : State) (next : Continuation) (g x : ℕ) where
+  abbrev gate-showing : Option (Maybe ℕ) → Machine.Outcome
+  gate-showing o = Machine.gate-set v (sites-of s) (s .site) (places-of s) (over s next) g x o
+
+  gate-silence : (o : Option (Maybe ℕ)) (f : RegisterFault) (l : Option ℕ) → Lands (s .stations) (gate-showing o) → told (s .site) g o ≡ Err f → Met (record { instrument = Gate; fault = f }) (answered (gate-showing o) l)
+  gate-silence nothing f l h e = absurd h
+  gate-silence (some None) f l h e = let q : Silent (s .site) g ≡ f = cc in subst (λ y. Met (record { instrument = Gate; fault = y }) (answered (gate-showing (some None)) l)) q refl
+  gate-silence (some (Some y)) f l h e = absurd (let z : _≡_ {A = ℕ} 0 1 = cc in omega arith)
+
+  pub gate-silent : (f : RegisterFault) (l : Option ℕ) → Lands (s .stations) (gate-showing (entry (v .gates) (s .site) g)) → asked (v .gates) (s .site) g ≡ Err f → Met (record { instrument = Gate; fault = f }) (answered (gate-showing (entry (v .gates) (s .site) g)) l)
+  gate-silent f l h e = gate-silence (entry (v .gates) (s .site) g) f l h (sym (asked-told (v .gates) (s .site) g) ∙ e)
+
+  pub gate-shown : (y : ℕ) → asked (v .gates) (s .site) g ≡ Ok y → entry (v .gates) (s .site) g ≡ some (Some y)
+  gate-shown y e = shown-told (s .site) g y (entry (v .gates) (s .site) g) (sym (asked-told (v .gates) (s .site) g) ∙ e)

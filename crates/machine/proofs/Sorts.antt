@@ -131,3 +131,11 @@ module _ (cs : List Cell) (all : Each (λ i c. CellIn cs i c) cs) where
   is-address-then (Val.Address s l) h q f = f s l refl
   is-address-then (Val.Pair i) h q f = (let z : false ≡ true = sym (pair-only (value-of (meanings cs) (Val.Pair i)) (a-pair i h) .3) ∙ q in grind arith)
 
+
+-- a comparison that fits wants two numbers
+pub chosen-numbers : (m : ℕ) (a u : Machine.Value) (f : ℕ → ℕ → Machine.Outcome) → Lands m (Machine.when-number a (λ x. Machine.when-number u (λ y. f x y))) → (is-number a ≡ true) × (is-number u ≡ true)
+chosen-numbers m (Machine.number n) u f h = (refl, wants-number m u (f n) h)
+chosen-numbers m (Machine.function p ρ) u f h = absurd h
+chosen-numbers m (Machine.code p ρ) u f h = absurd h
+chosen-numbers m (Machine.address s l) u f h = absurd h
+chosen-numbers m (Machine.pair a b) u f h = absurd h

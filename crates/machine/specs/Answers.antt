@@ -2,7 +2,8 @@
 use mathlib.Core.Path.{_≡_}
 use mathlib.Core.Option.{Option, some, none as nothing}
 use Prim.Native.Nat.{ℕ, _<_}
-use mathlib.Core.Bool.{Bool, true, false}
+use mathlib.Core.Bool.{Bool, true, false, cond}
+use lib.Dec.{ltb}
 use mathlib.Core.List.{List, []}
 use lib.ListN.{length}
 use Rattle.std.specs.declared.result.Result.{Result}
@@ -181,6 +182,14 @@ module _ (v : Works) (s : State) where
 
   abbrev pub worked : Program → Continuation → Value → Task → Answer
   worked P next u t = answered (framed P next u t) (lacking (takes (frame-rule (task-of (cells-of s) t))) (state-of s))
+
+  -- a gate is set here, and work is back with the number
+  abbrev pub gated : Continuation → Value → ℕ → Machine.Outcome
+  gated next u g = Machine.when-number (held s u) (λ n. Machine.gate-set v (sites-of s) (s .site) (places-of s) (over s next) g n (entry (v .gates) (s .site) g))
+
+  -- one of two parts is evaluated, by the order of two numbers
+  abbrev pub chosen : Continuation → Value → ℕ → ℕ → Environment → Value → Machine.Outcome
+  chosen next a x y e u = Machine.when-number (held s a) (λ m. Machine.when-number (held s u) (λ n. Machine.next v (sites-of s) (s .site) (places-of s) (over s next) (Machine.eval (cond (ltb m n) x y) (scope s e))))
 
   -- a frame is pushed over `next`, and a part is evaluated
   abbrev pub pushing : Task → Continuation → ℕ → Environment → Answer
