@@ -10,3 +10,4 @@ pub mod Looks
 pub mod Asks
 pub mod Evaluating
 pub mod Sorts
+pub mod Steps

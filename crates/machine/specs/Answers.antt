@@ -14,7 +14,7 @@ use Rattle.machine.specs.declared.parts.Unanswered.{Unanswered}
 use Rattle.calculus.specs.Machine
 use Rattle.calculus.specs.Step.{Works, Instrument, a-gauge, a-gate, Event, quiet}
 use Rattle.syntax.specs.declared.program.Term.{Term as TermRow}
-use Rattle.calculus.specs.Limits.{takes, row-rule, frame-rule, lacking, a-frame, a-binding, two-bindings, a-pair, a-published, a-kept, a-binding-and-kept, no-place}
+use Rattle.calculus.specs.Limits.{takes, row-rule, frame-rule, lacks, lacking, a-frame, a-binding, two-bindings, a-pair, a-published, a-kept, a-binding-and-kept, no-place}
 use Rattle.calculus.specs.Tables.{Table as Tabled, count, entry}
 use Rattle.calculus.specs.Program.{Program}
 use Rattle.std.specs.declared.option.Option.{Option as Maybe}
@@ -190,6 +190,10 @@ module _ (v : Works) (s : State) where
   -- one of two parts is evaluated, by the order of two numbers
   abbrev pub chosen : Continuation → Value → ℕ → ℕ → Environment → Value → Machine.Outcome
   chosen next a x y e u = Machine.when-number (held s a) (λ m. Machine.when-number (held s u) (λ n. Machine.next v (sites-of s) (s .site) (places-of s) (over s next) (Machine.eval (cond (ltb m n) x y) (scope s e))))
+
+  -- What a step answers.
+  abbrev pub stepped-on : Program → Answer
+  stepped-on P = answered (Machine.step P v (state-of s)) (lacks P (state-of s))
 
   -- a frame is pushed over `next`, and a part is evaluated
   abbrev pub pushing : Task → Continuation → ℕ → Environment → Answer

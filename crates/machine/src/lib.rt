@@ -6,4 +6,5 @@ mod parts;
 mod registers;
 mod rules;
 mod sites;
+mod step;
 mod store;
