@@ -11,3 +11,4 @@ pub mod Asks
 pub mod Evaluating
 pub mod Sorts
 pub mod Steps
+pub mod Loops

@@ -10,3 +10,7 @@ pub mod Store
 pub mod Lookups
 -- what a step answers
 pub mod Answers
+-- what always holds of a machine
+pub mod Safe
+-- what a run answers
+pub mod Runs

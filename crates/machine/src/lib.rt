@@ -5,6 +5,7 @@ mod lookups;
 mod parts;
 mod registers;
 mod rules;
+mod run;
 mod sites;
 mod step;
 mod store;

@@ -136,3 +136,17 @@ pub(crate) enum StepFault {
     Full(Table),
     Register(Unanswered),
 }
+
+// How a run ends, with the steps that it took.
+#[derive(Clone, Copy)]
+pub(crate) enum Run {
+    Done { steps: u32 },
+    Spent { steps: u32 },
+}
+
+// Why the next step is not taken, and the steps before it.
+#[derive(Clone, Copy)]
+pub(crate) struct RunFault {
+    pub(crate) fault: StepFault,
+    pub(crate) steps: u32,
+}
