@@ -12,3 +12,5 @@ pub mod Evaluating
 pub mod Sorts
 pub mod Steps
 pub mod Loops
+pub mod Typed
+pub mod Fresh

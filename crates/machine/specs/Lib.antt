@@ -14,3 +14,5 @@ pub mod Answers
 pub mod Safe
 -- what a run answers
 pub mod Runs
+-- tables with nothing in them
+pub mod Start

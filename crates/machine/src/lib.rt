@@ -7,5 +7,6 @@ mod registers;
 mod rules;
 mod run;
 mod sites;
+mod start;
 mod step;
 mod store;
