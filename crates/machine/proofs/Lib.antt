@@ -14,3 +14,4 @@ pub mod Steps
 pub mod Loops
 pub mod Typed
 pub mod Fresh
+pub mod Props

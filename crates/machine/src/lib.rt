@@ -2,6 +2,7 @@
 mod back;
 mod evaluate;
 mod lookups;
+mod machine;
 mod parts;
 mod registers;
 mod rules;
