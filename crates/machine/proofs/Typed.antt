@@ -5,7 +5,7 @@ use Prim.Native.Nat.{ℕ, zero, suc, _<_}
 use lib.ListN.{length, getElem?}
 use Rattle.calculus.specs.Types.{Ty, Sheet}
 use Rattle.calculus.specs.Machine
-use Rattle.calculus.specs.Program.{Program}
+use Rattle.calculus.specs.Program.{Program, WellTyped}
 use Rattle.calculus.specs.Step.{Works, Event, step, stepped}
 use Rattle.calculus.specs.NetworkTyping.{Agrees, NetworkTyped, setup}
 use Rattle.calculus.specs.Typing.{Entries}
@@ -13,7 +13,13 @@ use Rattle.calculus.specs.Meaning.{network-of, outcome-of}
 use Rattle.calculus.specs.Simulation.{StateTyped, StatesTyped}
 use Rattle.calculus.specs.Theorems.{SheetStays}
 use Rattle.machine.specs.Answers.{of-terms}
-use Rattle.machine.specs.Safe.{Onward, SafeFor, Safe}
+use Rattle.machine.specs.Safe.{Onward, SafeFor, Safe, Holds}
+use Rattle.machine.specs.Sound.{StateIn}
+use Rattle.machine.specs.Meaning.{state-of}
+use Rattle.machine.specs.declared.parts.State.{State}
+use mathlib.Core.Option.{Option, some, none as nothing}
+use Rattle.calculus.specs.Limits.{lacks}
+use Rattle.calculus.specs.Run.{Result, stop, one-more, execute, done, at-full, at-silent, broken}
 
 -- a step sees the terms of a program only
 frame-terms : (P : Program) (v : Works) (H : Machine.Sites) (w : ℕ) (c : Machine.Places) (u : Machine.Value) (k : Machine.Continuation) → Machine.back-step v H w c (of-terms (P .terms)) u k ≡ Machine.back-step v H w c P u k
@@ -59,3 +65,42 @@ module _ (P : Program) (A : Ty) (T : StatesTyped P A) (sim : (v : Works) (M : Ma
   -- A state of a typed program is safe.
   pub typed-safe : (M : Machine.State) → StateTyped P A M → Safe (of-terms (P .terms)) (P .sheet) M
   typed-safe M h k = safe-for k M h
+
+-- A started program of a type is safe: this is what a start owes.
+pub started-holds : (P : Program) (A : Ty) (s : State) → StatesTyped P A → ((v : Works) (M : Machine.State) → step v (network-of P M) ≡ outcome-of P (Machine.step P v M)) → SheetStays → WellTyped P A → StateIn s → s .stations ≡ length (P .sheet) → state-of s ≡ Machine.started P → Holds (of-terms (P .terms)) (P .sheet) s
+started-holds P A s T sim stays typed h n e = record {
+  state-in = h;
+  stations-are = n;
+  safe = typed-safe P A T sim stays (state-of s) (subst (StateTyped P A) (sym e) (T .start typed));
+}
+
+lacks-terms : (P : Program) (M : Machine.State) → lacks (of-terms (P .terms)) M ≡ lacks P M
+lacks-terms P (Machine.state H w k (Machine.eval p ρ) c) = refl
+lacks-terms P (Machine.state H w k (Machine.back u) c) = refl
+
+module _ (P : Program) (v : Works) (M : Machine.State) where
+  -- a run by what its step and its limits say
+  abbrev run-by : (Works → Machine.State → Result) → Bool → Machine.Outcome → Option ℕ → Result
+  run-by next d o l = elim d as (λ _. Result) [
+    | true ↦ stop done v M
+    | false ↦
+        elim o as (λ _. Result) [
+          | Machine.stepped L u e ↦ elim l as (λ _. Result) [ nothing ↦ one-more e (next u L) | some κ ↦ stop (at-full κ (Machine.stands-at M)) v M ]
+          | Machine.silent κ s n ↦ stop (at-silent κ s n) v M
+          | Machine.stuck ↦ stop broken v M
+        ]
+  ]
+
+  run-same : (f g : Works → Machine.State → Result) → ((u : Works) (L : Machine.State) → f u L ≡ g u L) → (d : Bool) (o : Machine.Outcome) (l : Option ℕ) → run-by f d o l ≡ run-by g d o l
+  run-same f g same true o l = refl
+  run-same f g same false (Machine.stepped L u e) nothing = ap (one-more e) (same u L)
+  run-same f g same false (Machine.stepped L u e) (some k) = refl
+  run-same f g same false (Machine.silent κ s n) l = refl
+  run-same f g same false Machine.stuck l = refl
+
+-- a run sees the terms of a program only
+pub execute-terms : (P : Program) (b : ℕ) (v : Works) (M : Machine.State) → execute (of-terms (P .terms)) b v M ≡ execute P b v M
+execute-terms P zero v M = refl
+execute-terms P (suc b) v M =
+    (λ i. run-by P v M (execute (of-terms (P .terms)) b) (Machine.is-done M) (step-terms P v M i) (lacks-terms P M i))
+    ∙ run-same P v M (execute (of-terms (P .terms)) b) (execute P b) (λ u L. execute-terms P b u L) (Machine.is-done M) (Machine.step P v M) (lacks P M)

@@ -16,3 +16,5 @@ pub mod Safe
 pub mod Runs
 -- tables with nothing in them
 pub mod Start
+-- examples
+pub mod Examples
