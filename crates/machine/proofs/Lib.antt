@@ -1,0 +1,17 @@
+pub mod Growth
+pub mod Stays
+pub mod Walks
+pub mod Room
+pub mod Frames
+pub mod Cells
+pub mod Binds
+pub mod Rows
+pub mod Looks
+pub mod Asks
+pub mod Evaluating
+pub mod Sorts
+pub mod Steps
+pub mod Loops
+pub mod Typed
+pub mod Fresh
+pub mod Props
