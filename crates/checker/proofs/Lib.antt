@@ -8,3 +8,4 @@ pub mod Binders
 pub mod Opening
 pub mod Whole
 pub mod Laying
+pub mod Lower

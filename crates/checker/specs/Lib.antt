@@ -14,3 +14,5 @@ pub mod Typed
 pub mod Accepting
 -- what judging a whole program answers
 pub mod Concluding
+-- how a type is written
+pub mod TypeLine

@@ -5,6 +5,7 @@ pub mod checking;
 pub mod context;
 mod judging;
 mod lookups;
+pub mod naming;
 pub mod scopes;
 mod tables;
 pub mod types;

@@ -42,6 +42,26 @@ fn accepted(rt: LibcRuntime) -> Result<(), Fail> {
     check_eq(outcome(&mut d, b"(station 32 0)\n(run 0 (gauge 31))\n"), (0, 0))
 }
 
+// Whether a program is accepted and the line of its type is this one.
+fn names(desk: &mut Desk, bytes: &[u8], line: &[u8]) -> bool {
+    let mut out = [0u8; 64];
+    if outcome(desk, bytes) != (0, 0) || line.len() > 64 {
+        return false;
+    }
+    match desk.program.write_type(&mut out) {
+        Ok(length) => length == line.len() && &out[0..line.len()] == line,
+        Err(_) => false,
+    }
+}
+
+#[test]
+fn types_are_named(rt: LibcRuntime) -> Result<(), Fail> {
+    let mut d = empty_desk(&rt)?;
+    check(names(&mut d, b"(station 1 0)\n(run 0 (gauge 0))\n", b"(type num)\n"))?;
+    check(names(&mut d, b"(station 1 0)\n(run 0 (lam none (pair (v 0) (here (v 0)))))\n", b"(type (fn none (both none (at none))))\n"))?;
+    check(names(&mut d, b"(station 1 0)\n(run 0 (box (num 1)))\n", b"(type (box num))\n"))
+}
+
 #[test]
 fn refused(rt: LibcRuntime) -> Result<(), Fail> {
     let mut d = empty_desk(&rt)?;
