@@ -84,6 +84,9 @@ def declared():
         skip = made(p, text)
         lines = text.split("\n")
         for i, line in enumerate(lines):
+            if line.startswith("use "):
+                for n in re.findall(r" as (" + NAME + ")", line):
+                    names.setdefault(n, False)
             if line.lstrip().startswith(("--", "use ")):
                 continue
             for n in re.findall(r"\bderiving \w+ as (" + NAME + ")", line):
@@ -108,6 +111,11 @@ def declared():
                     continue
                 t = is_type(rest) and not m[1] or names.get(n) is True
                 names[n] = bool(t)
+    for p in files(".rt"):
+        for line in read(p).split("\n"):
+            if line.startswith("ghost use "):
+                for n in re.findall(r" as (" + NAME + ")", line):
+                    names.setdefault(n, False)
     return names
 
 
@@ -158,7 +166,7 @@ def swap(part, table, skip):
 def ghost_parts(text):
     """a source file in parts, each with whether it is ghost: imports, clauses and ghost members"""
     out, i = [], 0
-    head = re.compile(r"ghost use [^;]*;|\b(?:requires|ensures|invariant|decreases|ghost|clause)\b[*]?(?: «?\w+»?)?:? \{")
+    head = re.compile(r"ghost use [^;]*;|\b(?:requires|ensures|invariant|decreases|ghost|clause)\b[*]?(?: «?\w+»?)?(?::| =)? \{")
     while True:
         m = head.search(text, i)
         if not m:

@@ -7,7 +7,7 @@ use Rattle.lines.specs.declared.refusal.CheckFault.TheVariants.{Unbound}
 use Rattle.instruments.specs.declared.sheet.Station.{Station}
 use Rattle.syntax.specs.Place.{Tables}
 use Rattle.syntax.specs.Sound.{TySound, TermSound, sizes}
-use Rattle.syntax.specs.Sound.{size as syntax-size, with_parts as syntax-parts}
+use Rattle.syntax.specs.Sound.{size as syntax_size, with_parts as syntax_parts}
 use Rattle.syntax.proofs.Tests.{Tested, test_says}
 use Rattle.syntax.specs.declared.program.Ty.{Ty as TypeRow}
 use Rattle.syntax.specs.declared.program.Ty.TheVariants as Row
@@ -30,7 +30,7 @@ use Rattle.checker.proofs.Verdicts.{needs_met, needs_unmet}
 use Rattle.checker.proofs.Laying.{laid_tests}
 
 -- sizes by either definition
-same_parts : (f : ℕ → ℕ) (r : TermRow) → with_parts f r ≡ syntax-parts f r
+same_parts : (f : ℕ → ℕ) (r : TermRow) → with_parts f r ≡ syntax_parts f r
 same_parts f (Term.Num n) = refl
 same_parts f (Term.Value n) = refl
 same_parts f (Term.Lam t a) = refl
@@ -56,7 +56,7 @@ same_sizes k (r ∷ rs) =
     let e = same_sizes (suc k) rs in
     ap (λ (ms : List ℕ). with_parts (λ c. get_or ms (c - suc k) 0) r ∷ ms) e ∙ ap (λ n. n ∷ sizes (suc k) rs) (same_parts (λ c. get_or (sizes (suc k) rs) (c - suc k) 0) r)
 
-same_size : (rows : List TermRow) (n : ℕ) → size rows n ≡ syntax-size rows n
+same_size : (rows : List TermRow) (n : ℕ) → size rows n ≡ syntax_size rows n
 same_size rows n = ap (λ (ms : List ℕ). get_or ms n 0) (same_sizes 0 rows)
 
 -- the parts of a sound type

@@ -4,7 +4,7 @@ use Rattle.lines.specs.declared.refusal.Refusal.{Refusal}
 use Rattle.lines.specs.declared.refusal.Refusal.TheVariants.{Check, Nothing}
 use Rattle.instruments.specs.Sheets.{stations_of}
 use Rattle.syntax.specs.Place.{Tables, Place as TextPlace}
-use Rattle.syntax.specs.Place.Place.{empty as no_text, full as a-text}
+use Rattle.syntax.specs.Place.Place.{empty as no_text, full as a_text}
 use Rattle.calculus.specs.Types.{Ty}
 use Rattle.calculus.specs.Program.{Program}
 use Rattle.calculus.specs.Checker.{Checked, typed, refused, check}
@@ -31,7 +31,7 @@ answer (refused e) = Err (Check e)
 -- what checking answers: 25 where nothing was read, else the checker's verdict
 abbrev pub answered : TextPlace → Result Unit Refusal
 answered no_text = Err Nothing
-answered (a-text t) = answer (check (program_of t))
+answered (a_text t) = answer (check (program_of t))
 
 abbrev pub filled : Place → Program → Checked → Place
 filled q P (typed A) = full P A
@@ -40,4 +40,4 @@ filled q P (refused e) = q
 -- the place after checking: full with the program and its type, or as it was where it is refused
 abbrev pub checked_into : Place → TextPlace → Place
 checked_into q no_text = q
-checked_into q (a-text t) = filled q (program_of t) (check (program_of t))
+checked_into q (a_text t) = filled q (program_of t) (check (program_of t))

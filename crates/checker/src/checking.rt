@@ -1,6 +1,6 @@
 // Checking the program of a text place into a place for accepted programs.
 ghost use Rattle.std.specs.Prelude.{◌≡◌, ◌≤◌, length, IfOk, Ok, vec_capacity};
-ghost use Rattle.syntax.specs.Place.{tables, place as text-place};
+ghost use Rattle.syntax.specs.Place.{tables, place as text_place};
 ghost use Rattle.calculus.specs.Checker.{CheckDecides};
 ghost use Rattle.checker.specs.Scopes.{rows_of, meaning_of};
 ghost use Rattle.checker.specs.Accepting.{place as place_of, program_of, answered, checked_into};
@@ -125,8 +125,8 @@ impl Accepted {
 // that is refused leaves that place as it was, and either way nothing stays bound. `decides`: a program is accepted exactly if the typing
 // rules give it a type, and then with that type and no other.
 pub fn check(text: &Text, scopes: &mut ScopeList, place: &mut Accepted) -> Result<(), Refusal>
-    ensures value { result ≡ answered (text-place text.now) }
-    ensures after { place_of place.new ≡ checked_into (place_of place.old) (text-place text.now) }
+    ensures value { result ≡ answered (text_place text.now) }
+    ensures after { place_of place.new ≡ checked_into (place_of place.old) (text_place text.now) }
     ensures height { scopes.new.context.height ≡ scopes.old.context.height }
     ensures decides { CheckDecides }
 {

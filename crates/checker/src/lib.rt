@@ -1,4 +1,6 @@
 // Type-checking a program.
+#![tactic(auto)]
+
 pub mod accepted;
 mod binding;
 pub mod checking;

@@ -1,6 +1,6 @@
 // The types of a scope list: building one, its parts, and holding one to another.
 ghost use Rattle.std.specs.Prelude.{◌≡◌, ◌+◌, ◌<◌, ◌≤◌, length, slice_index_or};
-ghost use Rattle.syntax.specs.declared.program.Ty.TheVariants.{Num as Num-row};
+ghost use Rattle.syntax.specs.declared.program.Ty.TheVariants.{Num as NumRow};
 ghost use Rattle.checker.specs.TypeTable.{Laid, Below, Given};
 ghost use Rattle.checker.specs.Scopes.{rows_of, meaning_of};
 ghost use Rattle.checker.specs.Judging.{Built, fn_parts, boxed_part, at_part, both_parts, num_row, never_row, carried_row, held};
@@ -24,7 +24,7 @@ impl Context {
     // The parameter and the result of a function type.
     pub(crate) fn as_function(&self, number: u16) -> Option<(u16, u16)>
         requires { number < length (rows_of self.now) }
-        ensures { result ≡ fn_parts (slice_index_or (rows_of self.now) number Num-row) }
+        ensures { result ≡ fn_parts (slice_index_or (rows_of self.now) number NumRow) }
     {
         let row = self.types[number as usize];
         match row {
@@ -36,7 +36,7 @@ impl Context {
     // What a `box` type is code for.
     pub(crate) fn as_boxed(&self, number: u16) -> Option<u16>
         requires { number < length (rows_of self.now) }
-        ensures { result ≡ boxed_part (slice_index_or (rows_of self.now) number Num-row) }
+        ensures { result ≡ boxed_part (slice_index_or (rows_of self.now) number NumRow) }
     {
         let row = self.types[number as usize];
         match row {
@@ -48,7 +48,7 @@ impl Context {
     // What an `at` type is the address of.
     pub(crate) fn as_at(&self, number: u16) -> Option<u16>
         requires { number < length (rows_of self.now) }
-        ensures { result ≡ at_part (slice_index_or (rows_of self.now) number Num-row) }
+        ensures { result ≡ at_part (slice_index_or (rows_of self.now) number NumRow) }
     {
         let row = self.types[number as usize];
         match row {
@@ -60,7 +60,7 @@ impl Context {
     // The halves of a `both` type.
     pub(crate) fn as_both(&self, number: u16) -> Option<(u16, u16)>
         requires { number < length (rows_of self.now) }
-        ensures { result ≡ both_parts (slice_index_or (rows_of self.now) number Num-row) }
+        ensures { result ≡ both_parts (slice_index_or (rows_of self.now) number NumRow) }
     {
         let row = self.types[number as usize];
         match row {
@@ -72,7 +72,7 @@ impl Context {
     // Whether a type is `num`.
     pub(crate) fn is_num(&self, number: u16) -> bool
         requires { number < length (rows_of self.now) }
-        ensures { result ≡ num_row (slice_index_or (rows_of self.now) number Num-row) }
+        ensures { result ≡ num_row (slice_index_or (rows_of self.now) number NumRow) }
     {
         let row = self.types[number as usize];
         match row {
@@ -84,7 +84,7 @@ impl Context {
     // Whether a type is `none`.
     pub(crate) fn is_never(&self, number: u16) -> bool
         requires { number < length (rows_of self.now) }
-        ensures { result ≡ never_row (slice_index_or (rows_of self.now) number Num-row) }
+        ensures { result ≡ never_row (slice_index_or (rows_of self.now) number NumRow) }
     {
         let row = self.types[number as usize];
         match row {
@@ -96,7 +96,7 @@ impl Context {
     // Whether a get may bring a value of a type.
     pub(crate) fn is_carried(&self, mobile: Mobile, number: u16) -> bool
         requires { number < length (rows_of self.now) }
-        ensures { result ≡ carried_row mobile (slice_index_or (rows_of self.now) number Num-row) }
+        ensures { result ≡ carried_row mobile (slice_index_or (rows_of self.now) number NumRow) }
     {
         match mobile {
             Mobile::Code => self.as_boxed(number).is_some(),

@@ -1,4 +1,6 @@
 // Worked examples, run through public calls.
+#![tactic(auto)]
+
 #[cfg(test)]
 mod benches;
 #[cfg(test)]

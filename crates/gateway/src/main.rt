@@ -1,4 +1,6 @@
 // Reads a program text from standard input, checks it and prints its type, or prints why it is refused.
+#![tactic(auto)]
+
 use anyhow::anyhow;
 use checker::accepted::Accepted;
 use checker::checking::check;

@@ -1,10 +1,10 @@
 -- What setting a register leaves.
-use Rattle.std.proofs.Common.{◌≡◌, ℕ, ◌<◌, ◌≤◌, Bool, true, false, cond, ltb, List, [], ◌∷◌, map, length, get_or, set, is_ok, Some, None, Ok, Err, Option, Result, sym, refl, ap, ◌∙◌, ⊎_elim, arith, length-set, ltb-true, lt-ltb}
-use Rattle.std.proofs.lemmas.List.{get_or_past, get_or-set_same, get_or-set_other, map-set, set-get_or, length-map, get_or-map}
+use Rattle.std.proofs.Common.{◌≡◌, ℕ, ◌<◌, ◌≤◌, Bool, true, false, cond, ltb, List, [], map, length, get_or, set, Some, None, Ok, Err, Option, Result, sym, refl, ap, ◌∙◌, ⊎_elim, arith, length-set, ltb-true}
+use Rattle.std.proofs.lemmas.List.{get_or_past, get_or-set_same, get_or-set_other, map-set, set-get_or, get_or-map}
 use Rattle.std.proofs.lemmas.Bool.{cases_eq, cases_lt}
 use Rattle.lines.specs.declared.refusal.RegisterFault.{RegisterFault}
 use Rattle.lines.specs.declared.refusal.RegisterFault.TheVariants.{NotFitted}
-use Rattle.instruments.specs.Registers.{Shown, site_row, heard, row_asked, asked, row_after, set_after, done, confirmed, Elsewhere}
+use Rattle.instruments.specs.Registers.{Shown, site_row, heard, row_asked, asked, row_after, set_after, done, Elsewhere}
 use Rattle.instruments.specs.Rows.{row_fitted}
 
 row_ok : (t : Bool) (o : Result ℕ RegisterFault) (s n old : ℕ) → cond t o (Err (NotFitted s n)) ≡ Ok old → t ≡ true

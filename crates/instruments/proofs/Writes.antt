@@ -1,10 +1,10 @@
-use Rattle.std.proofs.Common.{◌≡◌, ℕ, ◌+◌, ◌*◌, ◌/◌, ◌%◌, ◌^◌, ◌<◌, ◌≤◌, Bool, true, false, cond, eqb, ◌≢◌, ◌⊎◌, List, [], ◌∷◌, map, length, get_or, set, Some, None, Ok, Err, Option, Result, sym, refl, ap, ◌∙◌, ⊎_elim, arith, length-set}
+use Rattle.std.proofs.Common.{◌≡◌, ℕ, ◌+◌, ◌*◌, ◌/◌, ◌%◌, ◌^◌, ◌<◌, ◌≤◌, Bool, true, false, cond, eqb, ◌≢◌, List, [], map, length, get_or, set, Some, None, Ok, Option, sym, refl, ap, ◌∙◌, ⊎_elim, arith, length-set}
 use Rattle.std.proofs.lemmas.Bool.{cases_lt}
 use Rattle.std.specs.List.{range_with_len}
 use Rattle.std.proofs.lemmas.List.{get_or-set_same, get_or-set_other}
-use Rattle.instruments.specs.Registers.{Shown, site_row, heard, asked, set_after}
+use Rattle.instruments.specs.Registers.{site_row, heard, asked, set_after}
 use Rattle.instruments.specs.Indexed.{counted_same, counted_set, counted_row, counted_fitted}
-use Rattle.instruments.specs.Layout.{register, site_shown, shown, image_gauges, image_gates, put_gate, Counts}
+use Rattle.instruments.specs.Layout.{register, site_shown, image_gauges, image_gates, put_gate, Counts}
 
 -- a place before the gates of a site-row, and the two bytes of gate n of site s
 far : (p t s i n : ℕ) → p ≡ 140 * t + i → i < 76 → n < 32 → (p ≡ 140 * s + 76 + 2 * n → ⊥) × (p ≡ 140 * s + 76 + 2 * n + 1 → ⊥)

@@ -1,5 +1,5 @@
 -- What a bench shows.
-use Rattle.std.specs.Prelude.{ℕ, List, map, take, replicate, Some, None, Option}
+use Rattle.std.specs.Prelude.{ℕ, List, map, take, replicate, None, Option}
 use Rattle.instruments.specs.declared.sheet.Station.{Station}
 use Rattle.instruments.specs.declared.bench.Bank.{Bank}
 use Rattle.instruments.specs.declared.bench.Bench.{Bench}

@@ -1,5 +1,5 @@
 -- The banks of a bench are few, and none has many registers.
-use Rattle.std.specs.Prelude.{◌≡◌, ℕ, zero, suc, ◌≤◌, List, [], ◌∷◌, map, length, get_or, take}
+use Rattle.std.specs.Prelude.{◌≡◌, ℕ, zero, suc, ◌≤◌, List, [], ◌∷◌, map, length, take}
 use Rattle.std.proofs.Common.{zero-le, arith}
 use Rattle.std.proofs.lemmas.List.{length-map, length-take-le}
 use Rattle.instruments.specs.declared.bench.Bank.{Bank}

@@ -1,10 +1,10 @@
-use Rattle.std.specs.Prelude.{◌≡◌, ℕ, ◌+◌, ◌<◌, ◌≤◌, List, [], ◌∷◌, map, length, drop, Some, None, Ok, Err, Option, ◌≢◌, slice_index_or, refl}
-use Rattle.std.proofs.Common.{sym, ap, ◌∙◌, arith, eq-eqb, ne_eqb, ⊎_elim}
+use Rattle.std.specs.Prelude.{◌≡◌, ℕ, ◌+◌, ◌<◌, ◌≤◌, List, [], map, length, drop, Some, None, Err, Option, ◌≢◌, slice_index_or}
+use Rattle.std.proofs.Common.{◌∙◌, arith, eq-eqb, ne_eqb, ⊎_elim}
 use Rattle.std.specs.List.{range_with_len}
 use Rattle.std.proofs.lemmas.List.FromFn.{length-map-range_with_len, get_or-map-range_with_len}
 use Rattle.std.proofs.lemmas.List.{get_or_past, at_drop_more}
-use Rattle.lines.specs.declared.refusal.RegisterFault.TheVariants.{NotFitted, Silent}
-use Rattle.instruments.specs.Registers.{Shown, Few, site_row, heard, asked}
+use Rattle.lines.specs.declared.refusal.RegisterFault.TheVariants.{NotFitted}
+use Rattle.instruments.specs.Registers.{Few, site_row, heard, asked}
 use Rattle.std.proofs.lemmas.Bool.{cases_lt}
 use Rattle.instruments.specs.Rows.{row_fitted, row_unfitted}
 use Rattle.instruments.specs.declared.record.Row.{Row}

@@ -1,12 +1,11 @@
-use Rattle.std.specs.Prelude.{◌≡◌, ℕ, ◌+◌, ◌<◌, ◌≤◌, ◌⊎◌, List, [], ◌∷◌, map, length, set, Some, None, Ok, Err, Option, Result, ◌≢◌, slice_set, refl}
-use Rattle.std.proofs.Common.{sym, ap, ◌∙◌, inl, inr, ⊎_elim, arith}
+use Rattle.std.specs.Prelude.{◌≡◌, ℕ, ◌<◌, ◌≤◌, List, [], map, length, None, Err, Option, ◌≢◌, slice_set}
+use Rattle.std.proofs.Common.{sym, ◌∙◌, ⊎_elim, arith}
 use Rattle.std.specs.List.{range_with_len}
 use Rattle.std.proofs.lemmas.List.FromFn.{length-map-range_with_len, get_or-map-range_with_len}
 use Rattle.std.proofs.lemmas.List.{get_or_past, ext_get_or, length-set, get_or-set_same, get_or-set_other}
 use Rattle.std.proofs.lemmas.Bool.{cases_eq}
-use Rattle.lines.specs.declared.refusal.RegisterFault.{RegisterFault}
-use Rattle.lines.specs.declared.refusal.RegisterFault.TheVariants.{NotFitted, Silent}
-use Rattle.instruments.specs.Registers.{Shown, site_row, heard, row_asked}
+use Rattle.lines.specs.declared.refusal.RegisterFault.TheVariants.{NotFitted}
+use Rattle.instruments.specs.Registers.{site_row, heard, row_asked}
 use Rattle.instruments.specs.Rows.{row_fitted, row_unfitted}
 
 -- registers that a function of their number gives

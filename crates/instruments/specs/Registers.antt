@@ -1,5 +1,5 @@
 -- What registers show, and what asking and setting one answers and leaves. Gauges and gates go by the same rules.
-use Rattle.std.specs.Prelude.{◌≡◌, ℕ, ◌≤◌, Bool, true, false, cond, List, [], ◌∷◌, length, set, Some, None, Ok, Err, Option, Result, nat_lt, slice_index_or, slice_set}
+use Rattle.std.specs.Prelude.{◌≡◌, ℕ, ◌≤◌, cond, List, [], length, Some, None, Ok, Err, Option, Result, nat_lt, slice_index_or, slice_set}
 use Rattle.lines.specs.declared.refusal.RegisterFault.{RegisterFault}
 use Rattle.lines.specs.declared.refusal.RegisterFault.TheVariants.{NotFitted, Silent}
 

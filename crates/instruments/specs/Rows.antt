@@ -1,10 +1,10 @@
-use Rattle.std.specs.Prelude.{◌≡◌, ℕ, ◌+◌, ◌<◌, ◌≤◌, Bool, true, false, cond, List, [], ◌∷◌, map, length, take, set, Some, None, Ok, Err, Option, Result, slice_index_or, slice_set, refl}
-use Rattle.std.proofs.Common.{sym, ap, ◌∙◌, arith, length-set, rules, lt-ltb, le-ltb}
+use Rattle.std.specs.Prelude.{◌≡◌, ℕ, ◌+◌, ◌<◌, ◌≤◌, List, [], map, length, take, set, None, Err, Option, slice_index_or, slice_set}
+use Rattle.std.proofs.Common.{sym, ap, ◌∙◌, lt-ltb, le-ltb}
 use Rattle.std.proofs.Math.Seq.{take-set-lt}
-use Rattle.std.proofs.lemmas.List.{get_or-take, length-take-le, get_or-map, take-map, get_or_past, length-map, map-set, get_or_default, set_past, set-get_or, take_more_set, map_push, map_more}
+use Rattle.std.proofs.lemmas.List.{get_or-take, length-take-le, get_or-map, get_or_past, length-map, map-set, set_past, set-get_or, take_more_set, map_push, map_more}
 use Rattle.lines.specs.declared.refusal.RegisterFault.{RegisterFault}
-use Rattle.lines.specs.declared.refusal.RegisterFault.TheVariants.{NotFitted, Silent}
-use Rattle.instruments.specs.Registers.{Shown, site_row, heard, row_asked, asked, row_after, set_after}
+use Rattle.lines.specs.declared.refusal.RegisterFault.TheVariants.{NotFitted}
+use Rattle.instruments.specs.Registers.{Shown, site_row, heard, row_asked, asked, set_after}
 
 pub row_fitted : (xs : List (Option ℕ)) (s n : ℕ) (o : Option ℕ) → n < length xs → slice_index_or xs n None ≡ o → row_asked xs s n ≡ heard s n o
 row_fitted xs s n o h e = rw (lt-ltb n (length xs) h, e)

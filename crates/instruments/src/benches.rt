@@ -66,9 +66,9 @@ impl Bench {
 }
 
 impl Gauges for Bench {
-    ghost readings = { bench-gauges };
+    ghost readings = { bench_gauges };
 
-    ghost few = { λ b. few-banks b.gauges b.count b.few.0 b.few.1 };
+    ghost few = { λ b. few_banks b.gauges b.count b.few.0 b.few.1 };
 
     fn sites(&self) -> usize {
         self.count
@@ -84,11 +84,11 @@ impl Gauges for Bench {
 }
 
 impl Works for Bench {
-    ghost settings = { bench-gates };
+    ghost settings = { bench_gates };
 
     ghost level = { λ w. Prim.search (rules, length-map, length-take-le) };
 
-    ghost fewer = { λ w. few-banks w.gates w.count w.few.0 w.few.2 };
+    ghost fewer = { λ w. few_banks w.gates w.count w.few.0 w.few.2 };
 
     fn gates(&self, site: usize) -> usize {
         banks::width(&self.gates, self.count, site)

@@ -1,7 +1,7 @@
 // An image is a works. Asking reads a register's bytes, setting writes the two bytes of a gate.
 ghost use Rattle.std.specs.Prelude.{◌≡◌, ℕ, ◌+◌, ◌*◌, ◌/◌, ◌<◌, ◌≤◌, true, length, is_ok, if◌then◌else◌, Some, Ok, vec_len, slice_index};
 ghost use Rattle.instruments.specs.Registers.{row_asked, asked, done, set_after};
-ghost use Rattle.instruments.specs.Layout.{register as the-register, image_gauges, image_gates, site_shown, put_gate, Spelled, Foreign};
+ghost use Rattle.instruments.specs.Layout.{register as the_register, image_gauges, image_gates, site_shown, put_gate, Spelled, Foreign};
 ghost use Rattle.instruments.specs.ShowsLemmas.{shown_few};
 ghost use Rattle.std.proofs.Common.{rules};
 ghost use Rattle.std.proofs.lemmas.List.FromFn.{length-map-range_with_len};
@@ -15,7 +15,7 @@ fn register(bytes: &[u8], site: usize, bits: usize, numbers: usize, n: usize) ->
     requires within { 140 * site + 140 ≤ length bytes.now }
     requires short { length bytes.now ≤ 2240 }
     requires fields { (bits ≤ 8) × (numbers ≤ 76) × (n < 32) }
-    ensures value { result ≡ the-register bytes.now site bits numbers n }
+    ensures value { result ≡ the_register bytes.now site bits numbers n }
     ensures spelled { (v : ℕ) → result ≡ Some v → Spelled bytes.now site numbers n v }
 {
     let start = 140 * site;
@@ -63,9 +63,9 @@ fn count_at(bytes: &[u8], site: usize, count: usize) -> usize
 }
 
 impl Gauges for Image {
-    ghost readings = { λ i. image-gauges i.bytes.items };
+    ghost readings = { λ i. image_gauges i.bytes.items };
 
-    ghost few = { λ g. shown-few g.bytes.items 0 4 12 g.whole g.gauges };
+    ghost few = { λ g. shown_few g.bytes.items 0 4 12 g.whole g.gauges };
 
     fn sites(&self) -> usize {
         self.bytes.len() / 140
@@ -103,11 +103,11 @@ fn put(bytes: &mut Vec<u8>, site: usize, n: usize, value: u16)
 }
 
 impl Works for Image {
-    ghost settings = { λ i. image-gates i.bytes.items };
+    ghost settings = { λ i. image_gates i.bytes.items };
 
     ghost level = { λ w. Prim.search (rules, length-map-range_with_len) };
 
-    ghost fewer = { λ w. shown-few w.bytes.items 1 8 76 w.whole w.gates };
+    ghost fewer = { λ w. shown_few w.bytes.items 1 8 76 w.whole w.gates };
 
     fn gates(&self, site: usize) -> usize {
         if site < self.bytes.len() / 140 {

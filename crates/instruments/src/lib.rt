@@ -1,4 +1,6 @@
 // What the sites of a works have, show and take.
+#![tactic(auto)]
+
 mod banks;
 pub mod bench;
 pub mod benches;

@@ -2,7 +2,7 @@
 ghost use Rattle.std.specs.Prelude.{◌≡◌, ◌+◌, ◌*◌, ◌/◌, ◌≤◌, length};
 ghost use Rattle.instruments.specs.Accepted.{site_bad, bad_from, accepted};
 ghost use Rattle.instruments.specs.Made.{Made, image_bytes};
-ghost use Rattle.instruments.specs.declared.makes.NoImage.TheVariants.{Memory as no-memory, Refused as an-image-fault};
+ghost use Rattle.instruments.specs.declared.makes.NoImage.TheVariants.{Memory as no_memory, Refused as an_image_fault};
 
 use crate::image::Image;
 use lines::refusal::ImageFault;
@@ -16,7 +16,7 @@ pub enum NoImage {
 }
 
 impl From<ImageFault> for NoImage {
-    ghost from_gives = { λ e r. r ≡ an-image-fault e };
+    ghost from_gives = { λ e r. r ≡ an_image_fault e };
 
     fn from(fault: ImageFault) -> NoImage {
         NoImage::Refused(fault)
@@ -24,7 +24,7 @@ impl From<ImageFault> for NoImage {
 }
 
 impl From<AllocError> for NoImage {
-    ghost from_gives = { λ _ r. r ≡ no-memory };
+    ghost from_gives = { λ _ r. r ≡ no_memory };
 
     fn from(_error: AllocError) -> NoImage {
         NoImage::Memory

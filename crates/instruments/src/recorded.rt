@@ -1,6 +1,6 @@
 // A recorded sheet is gauges only: 16 sites of 32 gauges, of which the first matching row counts; a gauge without a row is silent.
 ghost use Rattle.std.specs.Prelude.{◌≡◌, [], IfOk};
-ghost use Rattle.instruments.specs.Records.{first, recorded as all-recorded, noted, noted_after};
+ghost use Rattle.instruments.specs.Records.{first, recorded as all_recorded, noted, noted_after};
 ghost use Rattle.instruments.specs.Grid.{recorded_few};
 
 use crate::record::{Recorded, Row};
@@ -43,9 +43,9 @@ impl Recorded {
 }
 
 impl Gauges for Recorded {
-    ghost readings = { λ s. all-recorded s.rows.items };
+    ghost readings = { λ s. all_recorded s.rows.items };
 
-    ghost few = { λ g. recorded-few g.rows.items };
+    ghost few = { λ g. recorded_few g.rows.items };
 
     fn sites(&self) -> usize {
         16

@@ -1,7 +1,7 @@
 // Why a call is refused. Each layer has its own enum of faults, and `Refusal` holds them all; `?` turns one into the other.
 ghost use Rattle.std.specs.Prelude.{◌≡◌};
-ghost use Rattle.lines.specs.declared.refusal.StepFault.TheVariants.{Register as unanswered-register};
-ghost use Rattle.lines.specs.declared.refusal.Refusal.TheVariants.{Text as a-text, Check as a-check, ShortBuffer as a-short, Run as a-run, Register as a-register, Image as an-image};
+ghost use Rattle.lines.specs.declared.refusal.StepFault.TheVariants.{Register as unanswered_register};
+ghost use Rattle.lines.specs.declared.refusal.Refusal.TheVariants.{Text as a_text, Check as a_check, ShortBuffer as a_short, Run as a_run, Register as a_register, Image as an_image};
 
 // A register does not answer.
 #[derive(Clone, Copy)]
@@ -94,7 +94,7 @@ pub enum Refusal {
 }
 
 impl From<TextFault> for Refusal {
-    ghost from_gives = { λ e r. r ≡ a-text e };
+    ghost from_gives = { λ e r. r ≡ a_text e };
 
     fn from(fault: TextFault) -> Refusal {
         Refusal::Text(fault)
@@ -102,7 +102,7 @@ impl From<TextFault> for Refusal {
 }
 
 impl From<CheckFault> for Refusal {
-    ghost from_gives = { λ e r. r ≡ a-check e };
+    ghost from_gives = { λ e r. r ≡ a_check e };
 
     fn from(fault: CheckFault) -> Refusal {
         Refusal::Check(fault)
@@ -110,7 +110,7 @@ impl From<CheckFault> for Refusal {
 }
 
 impl From<Short> for Refusal {
-    ghost from_gives = { λ _ r. r ≡ a-short };
+    ghost from_gives = { λ _ r. r ≡ a_short };
 
     fn from(_short: Short) -> Refusal {
         Refusal::ShortBuffer
@@ -118,7 +118,7 @@ impl From<Short> for Refusal {
 }
 
 impl From<RegisterFault> for Refusal {
-    ghost from_gives = { λ e r. r ≡ a-register e };
+    ghost from_gives = { λ e r. r ≡ a_register e };
 
     fn from(fault: RegisterFault) -> Refusal {
         Refusal::Register(fault)
@@ -126,7 +126,7 @@ impl From<RegisterFault> for Refusal {
 }
 
 impl From<ImageFault> for Refusal {
-    ghost from_gives = { λ e r. r ≡ an-image e };
+    ghost from_gives = { λ e r. r ≡ an_image e };
 
     fn from(fault: ImageFault) -> Refusal {
         Refusal::Image(fault)
@@ -134,7 +134,7 @@ impl From<ImageFault> for Refusal {
 }
 
 impl From<Unanswered> for StepFault {
-    ghost from_gives = { λ e r. r ≡ unanswered-register e };
+    ghost from_gives = { λ e r. r ≡ unanswered_register e };
 
     fn from(fault: Unanswered) -> StepFault {
         StepFault::Register(fault)
@@ -142,7 +142,7 @@ impl From<Unanswered> for StepFault {
 }
 
 impl From<RunFault> for Refusal {
-    ghost from_gives = { λ e r. r ≡ a-run e };
+    ghost from_gives = { λ e r. r ≡ a_run e };
 
     fn from(fault: RunFault) -> Refusal {
         Refusal::Run(fault)

@@ -1,6 +1,6 @@
 // The pieces of a text: words and numbers.
 ghost use Rattle.std.specs.Prelude.{◌≡◌, ◌+◌, ◌<◌, ◌≤◌, [], ◌∷◌, ◌++◌, length, decimal};
-ghost use Rattle.lines.specs.Writing.{Writes, over as text-over};
+ghost use Rattle.lines.specs.Writing.{Writes, over as text_over};
 
 use crate::pen::Pen;
 use crate::refusal::Short;
@@ -8,7 +8,7 @@ use crate::refusal::Short;
 // Writes bytes over those at a place.
 fn write_at(out: &mut [u8], at: usize, bytes: &[u8])
     requires { at + length bytes.now ≤ length out.old }
-    ensures { out.new ≡ text-over at bytes.now out.old }
+    ensures { out.new ≡ text_over at bytes.now out.old }
 {
     let end = at + bytes.len();
     let part = &mut out[at..end];

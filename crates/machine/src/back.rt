@@ -9,7 +9,7 @@ ghost use Rattle.calculus.specs.Limits.{lacking, no_place};
 ghost use Rattle.machine.specs.Meaning.{state_of};
 ghost use Rattle.machine.specs.Sound.{StateIn, TaskIn, EnvironmentIn, ContinuationIn, ValueIn};
 ghost use Rattle.machine.specs.Answers.{Goes, Ends, Lands, is_number, is_function, is_code, is_address, is_pair, answered, framed, worked, gated, chosen, shown, held, of_terms};
-ghost use Rattle.machine.specs.declared.parts.Task.TheVariants.{Applied as to-call, Unbox as to-unbox, Open as to-open};
+ghost use Rattle.machine.specs.declared.parts.Task.TheVariants.{Applied as to_call, Unbox as to_unbox, Open as to_open};
 
 use crate::parts::*;
 use crate::registers::set_gate;
@@ -60,7 +60,7 @@ impl State {
         requires value { ValueIn self.old.store.cells.items (length self.old.store.cells.items) value }
         requires next { ContinuationIn (length self.old.store.frames.items) next }
         requires kind { is_function (held self.old function) ≡ true }
-        ensures { (v : Showing) → Ends result self.old self.new v v (worked v self.old (of_terms program.now) next value (to-call function)) }
+        ensures { (v : Showing) → Ends result self.old self.new v v (worked v self.old (of_terms program.now) next value (to_call function)) }
     {
         let Value::Function { term, environment } = function else {
             unreachable()
@@ -74,7 +74,7 @@ impl State {
         requires value { ValueIn self.old.store.cells.items (length self.old.store.cells.items) value }
         requires next { ContinuationIn (length self.old.store.frames.items) next }
         requires kind { is_code (held self.old value) ≡ true }
-        ensures { (v : Showing) → Ends result self.old self.new v v (worked v self.old (of_terms program.now) next value to-unbox) }
+        ensures { (v : Showing) → Ends result self.old self.new v v (worked v self.old (of_terms program.now) next value to_unbox) }
     {
         let Value::Code { term, environment } = value else {
             unreachable()
@@ -118,7 +118,7 @@ impl State {
         requires value { ValueIn self.old.store.cells.items (length self.old.store.cells.items) value }
         requires next { ContinuationIn (length self.old.store.frames.items) next }
         requires kind { is_address (held self.old value) ≡ true }
-        ensures { (v : Showing) (P : Program) → Ends result self.old self.new v v (worked v self.old P next value (to-open part environment)) }
+        ensures { (v : Showing) (P : Program) → Ends result self.old self.new v v (worked v self.old P next value (to_open part environment)) }
     {
         let Value::Address { site, label } = value else {
             unreachable()

@@ -1,4 +1,6 @@
 // The machine that runs a program: a place for it, starting, running, standing and answering.
+#![tactic(auto)]
+
 mod back;
 pub mod calls;
 mod evaluate;

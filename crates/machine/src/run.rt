@@ -7,7 +7,7 @@ ghost use Rattle.machine.specs.Meaning.{state_of};
 ghost use Rattle.machine.specs.Answers.{shown, of_terms};
 ghost use Rattle.machine.specs.Safe.{Holds};
 ghost use Rattle.machine.specs.Marks.{bits_of};
-ghost use Rattle.machine.specs.Runs.{ran, ran_by, Told, halted as halted-at};
+ghost use Rattle.machine.specs.Runs.{ran, ran_by, Told, halted as halted_at};
 
 use crate::parts::*;
 use instruments::works::Works;
@@ -16,7 +16,7 @@ use syntax::program::Term;
 
 // Adds to the fault of a step the site where work stands and the steps before.
 fn halted(step: Result<(), StepFault>, site: u16, steps: u32) -> Result<(), RunFault>
-    ensures { result ≡ halted-at step site steps }
+    ensures { result ≡ halted_at step site steps }
 {
     match step {
         Ok(()) => Ok(()),

@@ -3,7 +3,7 @@ ghost use Rattle.std.specs.Prelude.{◌≡◌, ℕ, ◌+◌, ◌<◌, ◌≤◌,
 ghost use Rattle.std.proofs.Math.ListN.{get_elem?};
 ghost use Rattle.machine.specs.Sound.{StoreIn};
 ghost use Rattle.machine.specs.Store.{Fits, RowPublished, RowKept, RowSet, RowFits, Published, Kept, reads, PublishedAt, KeptAt, published_count, kept_count};
-ghost use Rattle.lines.specs.declared.refusal.Table.TheVariants.{Published as of-published, Kept as of-kept};
+ghost use Rattle.lines.specs.declared.refusal.Table.TheVariants.{Published as of_published, Kept as of_kept};
 
 use crate::parts::*;
 use crate::store::{KEPT, PUBLISHED};
@@ -11,7 +11,7 @@ use lines::refusal::{StepFault, Table};
 
 impl SiteRow {
     pub(crate) fn published_room(&self) -> Result<(), StepFault>
-        ensures { Fits result of-published 128 (length self.now.published.items + 1) }
+        ensures { Fits result of_published 128 (length self.now.published.items + 1) }
     {
         if self.published.len() < PUBLISHED {
             Ok(())
@@ -21,7 +21,7 @@ impl SiteRow {
     }
 
     pub(crate) fn kept_room(&self) -> Result<(), StepFault>
-        ensures { Fits result of-kept 256 (length self.now.kept.items + 1) }
+        ensures { Fits result of_kept 256 (length self.now.kept.items + 1) }
     {
         if self.kept.len() < KEPT {
             Ok(())
@@ -77,7 +77,7 @@ impl Store {
     // Room for one published value at a site.
     pub(crate) fn published_room(&self, site: u16) -> Result<(), StepFault>
         requires { site < length self.now.rows }
-        ensures { RowFits result of-published 128 self.now site published_count }
+        ensures { RowFits result of_published 128 self.now site published_count }
     {
         self.rows[site as usize].published_room()
     }
@@ -85,7 +85,7 @@ impl Store {
     // Room for one kept continuation at a site.
     pub(crate) fn kept_room(&self, site: u16) -> Result<(), StepFault>
         requires { site < length self.now.rows }
-        ensures { RowFits result of-kept 256 self.now site kept_count }
+        ensures { RowFits result of_kept 256 self.now site kept_count }
     {
         self.rows[site as usize].kept_room()
     }

@@ -1,7 +1,7 @@
 // Empty tables, with all their memory taken at once.
 ghost use Rattle.std.specs.Prelude.{◌≡◌, ◌<◌, ◌≤◌, List, [], length, IfOk, vec_len, vec_capacity};
 ghost use Rattle.calculus.specs.Program.{Program};
-ghost use Rattle.calculus.specs.Machine.{started as machine-started};
+ghost use Rattle.calculus.specs.Machine.{started as machine_started};
 ghost use Rattle.machine.specs.Meaning.{state_of};
 ghost use Rattle.machine.specs.Sound.{Each, StoreIn, StateIn};
 ghost use Rattle.machine.specs.Start.{RowRoom, NewRow, NewStore};
@@ -99,7 +99,7 @@ impl State {
         requires within { start < stations }
         ensures state { StateIn result }
         ensures stations { result.stations ≡ stations }
-        ensures means { (P : Program) → length P.sheet ≡ stations → P.start ≡ start → state_of result ≡ machine-started P }
+        ensures means { (P : Program) → length P.sheet ≡ stations → P.start ≡ start → state_of result ≡ machine_started P }
     {
         State {
             stations,
@@ -120,7 +120,7 @@ impl State {
         requires within { start < stations }
         ensures state { StateIn self.new }
         ensures stations { self.new.stations ≡ stations }
-        ensures means { (P : Program) → length P.sheet ≡ stations → P.start ≡ start → state_of self.new ≡ machine-started P }
+        ensures means { (P : Program) → length P.sheet ≡ stations → P.start ≡ start → state_of self.new ≡ machine_started P }
     {
         self.store.clear();
         self.stations = stations;

@@ -1,6 +1,6 @@
 // One step of the machine.
 ghost use Rattle.std.specs.Prelude.{◌≡◌, ◌<◌, length};
-ghost use Rattle.calculus.specs.Machine.{step as machine-step, is_finished};
+ghost use Rattle.calculus.specs.Machine.{step as machine_step, is_finished};
 ghost use Rattle.machine.specs.Meaning.{state_of};
 ghost use Rattle.machine.specs.Sound.{StateIn};
 ghost use Rattle.machine.specs.Answers.{Ends, Lands, stepped_on, shown, of_terms};
@@ -63,9 +63,9 @@ impl State {
     ) -> Result<(), StepFault>
         requires state { StateIn self.old }
         requires whole { length marks.old ≡ 128 }
-        requires live { Lands self.old.stations (machine-step (of_terms program.now) (shown (W.Gauges.readings works.old) (W.Works.settings works.old)) (state_of self.old)) }
+        requires live { Lands self.old.stations (machine_step (of_terms program.now) (shown (W.Gauges.readings works.old) (W.Works.settings works.old)) (state_of self.old)) }
         ensures ends { Ends result self.old self.new (shown (W.Gauges.readings works.old) (W.Works.settings works.old)) (shown (W.Gauges.readings works.new) (W.Works.settings works.new)) (stepped_on (shown (W.Gauges.readings works.old) (W.Works.settings works.old)) self.old (of_terms program.now)) }
-        ensures marks { Marked result (machine-step (of_terms program.now) (shown (W.Gauges.readings works.old) (W.Works.settings works.old)) (state_of self.old)) (bits_of marks.old) (bits_of marks.new) }
+        ensures marks { Marked result (machine_step (of_terms program.now) (shown (W.Gauges.readings works.old) (W.Works.settings works.old)) (state_of self.old)) (bits_of marks.old) (bits_of marks.new) }
     {
         let site = self.site;
         match (self.phase, self.continuation) {

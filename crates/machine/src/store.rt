@@ -4,7 +4,7 @@ ghost use Rattle.std.proofs.Math.Option.{Option, some};
 ghost use Rattle.std.proofs.Math.ListN.{get_elem?};
 ghost use Rattle.machine.specs.Sound.{StoreIn};
 ghost use Rattle.machine.specs.Store.{Fits, FramePushed, CellPushed};
-ghost use Rattle.lines.specs.declared.refusal.Table.TheVariants.{Frames as of-frames, Bindings as of-bindings, Pairs as of-pairs};
+ghost use Rattle.lines.specs.declared.refusal.Table.TheVariants.{Frames as of_frames, Bindings as of_bindings, Pairs as of_pairs};
 
 use crate::parts::*;
 use lines::refusal::{StepFault, Table};
@@ -36,7 +36,7 @@ impl Store {
 
     // Room for one frame.
     pub(crate) fn frame_room(&self) -> Result<(), StepFault>
-        ensures { Fits result of-frames 4096 (length self.now.frames.items + 1) }
+        ensures { Fits result of_frames 4096 (length self.now.frames.items + 1) }
     {
         if self.frames.len() < FRAMES {
             Ok(())
@@ -48,7 +48,7 @@ impl Store {
     // Room for so many bindings.
     pub(crate) fn binding_room(&self, places: u16) -> Result<(), StepFault>
         requires { places ≤ 2 }
-        ensures { Fits result of-bindings 4096 (self.now.bindings + places) }
+        ensures { Fits result of_bindings 4096 (self.now.bindings + places) }
     {
         if self.bindings <= BINDINGS - places {
             Ok(())
@@ -59,7 +59,7 @@ impl Store {
 
     // Room for one pair.
     pub(crate) fn pair_room(&self) -> Result<(), StepFault>
-        ensures { Fits result of-pairs 2048 (self.now.pairs + 1) }
+        ensures { Fits result of_pairs 2048 (self.now.pairs + 1) }
     {
         if self.pairs < PAIRS {
             Ok(())

@@ -1,4 +1,6 @@
 // Prints what every gauge of the bus image `works.img` shows, or why the image is refused.
+#![tactic(auto)]
+
 use anyhow::anyhow;
 use instruments::image::Image;
 use instruments::makes::NoImage;

@@ -1,6 +1,6 @@
 -- The first byte of an item.
-use Rattle.std.proofs.Common.{◌≡◌, ℕ, ◌+◌, ◌-◌, ◌<◌, ◌≤◌, Bool, true, false, cond, ◌&&◌, ◌||◌, eqb, leb, ◌⊎◌, List, [], ◌∷◌, ◌++◌, length, set, sym, refl, ap, ◌∙◌, subst, inl, inr, ⊎_elim, arith}
-use Rattle.std.proofs.lemmas.Bool.{eq-eqb, ne_eqb, eqb-true, le-leb, lt-leb, and_left, and_right, both_ways}
+use Rattle.std.proofs.Common.{◌≡◌, ℕ, ◌<◌, ◌≤◌, Bool, true, false, cond, ◌&&◌, ◌||◌, eqb, leb, ◌⊎◌, List, [], ◌∷◌, sym, refl, ap, ◌∙◌, subst, inl, inr, ⊎_elim}
+use Rattle.std.proofs.lemmas.Bool.{eqb-true, le-leb, lt-leb, both_ways}
 use Rattle.syntax.specs.Grammar.{Want, words}
 use Rattle.syntax.specs.declared.grammar.Form.{Form}
 use Rattle.syntax.specs.Grammar.Want.{item, word}
@@ -10,7 +10,7 @@ use Rattle.syntax.specs.Reading.{Seen, Move, go, step, begun, full, began, after
 use Rattle.syntax.specs.Reading.Move.{on, off}
 use Rattle.syntax.specs.Reading.Outcome.{refused}
 use Rattle.syntax.specs.Views.{begins_item}
-use Rattle.syntax.proofs.Steps.{go_by, go_some, go_cons, moved}
+use Rattle.syntax.proofs.Steps.{go_by, go_some, moved}
 
 split_or : (c : ℕ) → (eqb c 40 || eqb c 110) ≡ true → (c ≡ 40) ⊎ (c ≡ 110)
 split_or c h = at (eqb c 40) refl h

@@ -1,5 +1,5 @@
 -- A form that ends is in its place, and its bracket is closed.
-use Rattle.std.proofs.Common.{◌≡◌, ℕ, ◌+◌, ◌-◌, List, [], ◌∷◌, ◌++◌, set, sym, refl, ap, ◌∙◌, subst}
+use Rattle.std.proofs.Common.{◌≡◌, ℕ, List, ◌∷◌, ◌++◌, set, refl, subst}
 use Rattle.syntax.specs.Grammar.{world_by}
 use Rattle.syntax.specs.Grammar.Stop.{close}
 use Rattle.syntax.specs.Reading.{passed, opened}
@@ -11,7 +11,7 @@ use Rattle.syntax.specs.declared.program.World.TheVariants.{Site, Bound}
 use Rattle.syntax.specs.declared.program.Mobile.{Mobile}
 use Rattle.syntax.specs.declared.program.Mobile.TheVariants.{Code, Address, Number}
 use Rattle.syntax.specs.declared.program.Ty.{Ty}
-use Rattle.syntax.specs.declared.program.Ty.TheVariants.{Never, Fn, At, Both, Num as Ty-as-Num, Boxed as Ty-as-Boxed}
+use Rattle.syntax.specs.declared.program.Ty.TheVariants.{Never, Fn, At, Both, Num as TyAsNum, Boxed as TyAsBoxed}
 use Rattle.syntax.specs.declared.program.Term.{Term}
 use Rattle.syntax.specs.declared.program.Term.TheVariants.{Num, Value, Lam, App, Boxed, Unbox, Here, Letd, Get, Pair, Fst, Snd, Letcc, Throw, Go, Gauge, Gate, Below}
 use Rattle.syntax.proofs.Picks.{back}
@@ -56,10 +56,10 @@ module _ (q : Tables) (vs : List ℕ) (d n : ℕ) where
   EndsType t f = passed (close f) (opened f (seen q (parts_of_type t ++ n ∷ vs) d)) ≡ seen (with_types q (set q.types n t)) (n ∷ vs) d
 
   ends_type : (t : Ty) → EndsType t (type_form t)
-  ends_type Ty-as-Num = refl
+  ends_type TyAsNum = refl
   ends_type Never = refl
   ends_type (Fn a b) = rw (back d)
-  ends_type (Ty-as-Boxed a) = rw (back d)
+  ends_type (TyAsBoxed a) = rw (back d)
   ends_type (At a) = rw (back d)
   ends_type (Both a b) = rw (back d)
 

@@ -1,5 +1,5 @@
 -- The exit of a `?`, and what one call led to put before the next.
-use Rattle.std.proofs.Common.{◌≡◌, ℕ, IsErrAnd, Ok, Err, Result, sym, refl, ap, ◌∙◌, subst}
+use Rattle.std.proofs.Common.{◌≡◌, ℕ, IsErrAnd, Err, Result, sym, ap, ◌∙◌, subst}
 use Rattle.std.proofs.lemmas.Result.{err_from_is_err_and}
 use Rattle.lines.specs.declared.refusal.TextFault.{TextFault}
 use Rattle.lines.specs.declared.refusal.TextFault.TheVariants.{Grammar}

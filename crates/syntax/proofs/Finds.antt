@@ -1,13 +1,12 @@
 -- A word followed byte by byte is a word compared at once.
-use Rattle.std.proofs.Common.{◌≡◌, ℕ, zero, suc, ◌+◌, ◌-◌, ◌<◌, ◌≤◌, max, Bool, true, false, cond, eqb, List, [], ◌∷◌, ◌++◌, length, get_or, take, drop, Ok, Err, sym, refl, ap, ◌∙◌, subst, arith}
+use Rattle.std.proofs.Common.{◌≡◌, ℕ, zero, suc, ◌+◌, ◌<◌, ◌≤◌, max, Bool, true, false, cond, eqb, List, [], ◌∷◌, ◌++◌, length, get_or, take, drop, Ok, Err, sym, refl, ap, ◌∙◌, subst, arith}
 use Rattle.std.proofs.lemmas.List.{drop_more, drop_all, take_more, take_all, drop-drop}
 use Rattle.std.proofs.lemmas.Bool.{eq-eqb, ne_eqb, eqb-true, both_ways}
 use Rattle.syntax.specs.Grammar.{Want, wants, spelling, spelled_out, last}
 use Rattle.syntax.specs.Grammar.Want.{word}
-use Rattle.syntax.specs.Reading.{Seen, Move, go, step, after, spelled, many, opened}
-use Rattle.syntax.specs.Reading.Move.{on, off}
+use Rattle.syntax.specs.Reading.{Seen, go, after, spelled, many, opened}
 use Rattle.syntax.specs.Reading.Outcome.{refused}
-use Rattle.syntax.specs.Texts.{In, Apart, begins}
+use Rattle.syntax.specs.Texts.{In, Apart}
 use Rattle.syntax.specs.Texts.In.{here, there}
 use Rattle.syntax.specs.Views.{agreed, Misses, farthest, Found, Clean, Clear}
 use Rattle.syntax.specs.declared.grammar.Form.{Form}

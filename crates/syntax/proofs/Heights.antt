@@ -13,9 +13,9 @@ use Rattle.syntax.specs.declared.grammar.Form.{Form}
 use Rattle.syntax.specs.declared.grammar.Form.TheVariants.{TNum, TNone, TFn, TBox, TAt, TBoth, Site, Bound, Num, Val, Lam, App, Boxed, Unbox, Here, Letd, Getb, Getd, Getn, Pair, Fst, Snd, Letcc, Throw, Go, Gauge, Gate, Below, Station, Run}
 use Rattle.syntax.specs.declared.grammar.Sort.{Sort}
 use Rattle.syntax.specs.declared.program.Ty.{Ty}
-use Rattle.syntax.specs.declared.program.Ty.TheVariants.{Num as Ty-as-Num, Never as Ty-as-Never, Fn as Ty-as-Fn, Boxed as Ty-as-Boxed, At as Ty-as-At, Both as Ty-as-Both}
+use Rattle.syntax.specs.declared.program.Ty.TheVariants.{Num as TyAsNum, Never as TyAsNever, Fn as TyAsFn, Boxed as TyAsBoxed, At as TyAsAt, Both as TyAsBoth}
 use Rattle.syntax.specs.declared.program.Term.{Term}
-use Rattle.syntax.specs.declared.program.Term.TheVariants.{Num as Term-as-Num, Value as Term-as-Value, Lam as Term-as-Lam, App as Term-as-App, Boxed as Term-as-Boxed, Unbox as Term-as-Unbox, Here as Term-as-Here, Letd as Term-as-Letd, Get as Term-as-Get, Pair as Term-as-Pair, Fst as Term-as-Fst, Snd as Term-as-Snd, Letcc as Term-as-Letcc, Throw as Term-as-Throw, Go as Term-as-Go, Gauge as Term-as-Gauge, Gate as Term-as-Gate, Below as Term-as-Below}
+use Rattle.syntax.specs.declared.program.Term.TheVariants.{Num as TermAsNum, Value as TermAsValue, Lam as TermAsLam, App as TermAsApp, Boxed as TermAsBoxed, Unbox as TermAsUnbox, Here as TermAsHere, Letd as TermAsLetd, Get as TermAsGet, Pair as TermAsPair, Fst as TermAsFst, Snd as TermAsSnd, Letcc as TermAsLetcc, Throw as TermAsThrow, Go as TermAsGo, Gauge as TermAsGauge, Gate as TermAsGate, Below as TermAsBelow}
 use Rattle.syntax.proofs.Rows.{Makes, makes}
 use Rattle.syntax.proofs.Tables.{values_width}
 use Rattle.syntax.proofs.Exact.{read_right}
@@ -43,44 +43,44 @@ height (number' n r) = height r
 height (form f t r) = max (height t + 1) (height r)
 
 ty_map : (P Q : ℕ → Type 0) → ((a : ℕ) → P a → Q a) → (t : Ty) → TyParts P t → TyParts Q t
-ty_map P Q f Ty-as-Num h = tt
-ty_map P Q f Ty-as-Never h = tt
-ty_map P Q f (Ty-as-Fn a b) h = (f a h.0, f b h.1)
-ty_map P Q f (Ty-as-Boxed a) h = f a h
-ty_map P Q f (Ty-as-At a) h = f a h
-ty_map P Q f (Ty-as-Both a b) h = (f a h.0, f b h.1)
+ty_map P Q f TyAsNum h = tt
+ty_map P Q f TyAsNever h = tt
+ty_map P Q f (TyAsFn a b) h = (f a h.0, f b h.1)
+ty_map P Q f (TyAsBoxed a) h = f a h
+ty_map P Q f (TyAsAt a) h = f a h
+ty_map P Q f (TyAsBoth a b) h = (f a h.0, f b h.1)
 
 pub term_map : (P Q : ℕ → Type 0) → ((a : ℕ) → P a → Q a) → (t : Term) → TermParts P t → TermParts Q t
-term_map P Q f (Term-as-Num n) h = tt
-term_map P Q f (Term-as-Value n) h = tt
-term_map P Q f (Term-as-Lam t a) h = f a h
-term_map P Q f (Term-as-App a b) h = (f a h.0, f b h.1)
-term_map P Q f (Term-as-Boxed a) h = f a h
-term_map P Q f (Term-as-Unbox a) h = f a h
-term_map P Q f (Term-as-Here a) h = f a h
-term_map P Q f (Term-as-Letd a b) h = (f a h.0, f b h.1)
-term_map P Q f (Term-as-Get m w a) h = f a h
-term_map P Q f (Term-as-Pair a b) h = (f a h.0, f b h.1)
-term_map P Q f (Term-as-Fst a) h = f a h
-term_map P Q f (Term-as-Snd a) h = f a h
-term_map P Q f (Term-as-Letcc t a) h = f a h
-term_map P Q f (Term-as-Throw t n a) h = f a h
-term_map P Q f (Term-as-Go t w a) h = f a h
-term_map P Q f (Term-as-Gauge n) h = tt
-term_map P Q f (Term-as-Gate n a) h = f a h
-term_map P Q f (Term-as-Below t a b c d) h = (f a h.0, f b h.1, f c h.2, f d h.3)
+term_map P Q f (TermAsNum n) h = tt
+term_map P Q f (TermAsValue n) h = tt
+term_map P Q f (TermAsLam t a) h = f a h
+term_map P Q f (TermAsApp a b) h = (f a h.0, f b h.1)
+term_map P Q f (TermAsBoxed a) h = f a h
+term_map P Q f (TermAsUnbox a) h = f a h
+term_map P Q f (TermAsHere a) h = f a h
+term_map P Q f (TermAsLetd a b) h = (f a h.0, f b h.1)
+term_map P Q f (TermAsGet m w a) h = f a h
+term_map P Q f (TermAsPair a b) h = (f a h.0, f b h.1)
+term_map P Q f (TermAsFst a) h = f a h
+term_map P Q f (TermAsSnd a) h = f a h
+term_map P Q f (TermAsLetcc t a) h = f a h
+term_map P Q f (TermAsThrow t n a) h = f a h
+term_map P Q f (TermAsGo t w a) h = f a h
+term_map P Q f (TermAsGauge n) h = tt
+term_map P Q f (TermAsGate n a) h = f a h
+term_map P Q f (TermAsBelow t a b c d) h = (f a h.0, f b h.1, f c h.2, f d h.3)
 
 module _ (tys : List Ty) (tms : List Term) where
   -- what is low is as low as more
   pub ty_more : (k m n : ℕ) → k ≤ m → TyLow tys k n → TyLow tys m n
   ty_more zero m n l h = absurd h
   ty_more (suc k) zero n l h = absurd (omega arith)
-  ty_more (suc k) (suc m) n l h = ty_map (λ a. TyLow tys k a) (λ a. TyLow tys m a) (λ a g. ty_more k m a (omega arith) g) (get_or tys n Ty-as-Num) h
+  ty_more (suc k) (suc m) n l h = ty_map (λ a. TyLow tys k a) (λ a. TyLow tys m a) (λ a g. ty_more k m a (omega arith) g) (get_or tys n TyAsNum) h
 
   pub term_more : (k m n : ℕ) → k ≤ m → TermLow tms k n → TermLow tms m n
   term_more zero m n l h = absurd h
   term_more (suc k) zero n l h = absurd (omega arith)
-  term_more (suc k) (suc m) n l h = term_map (λ a. TermLow tms k a) (λ a. TermLow tms m a) (λ a g. term_more k m a (omega arith) g) (get_or tms n (Term-as-Num 0)) h
+  term_more (suc k) (suc m) n l h = term_map (λ a. TermLow tms k a) (λ a. TermLow tms m a) (λ a g. term_more k m a (omega arith) g) (get_or tms n (TermAsNum 0)) h
 
   -- the values of parts are low
   abbrev Good : ℕ → List Part → List ℕ → Type 0
@@ -143,7 +143,7 @@ module _ (tys : List Ty) (tms : List Term) where
   OwnLow term k a b = TermLow tms k b
 
   own_low : (d : Kind) (k a b : ℕ) (M : Made) → Makes (sort_of d) M → MadeLow k M → Stand tys a (ty_row M) → Stand tms b (tm_row M) → OwnLow d (suc k) a b
-  own_low type k a b (a_type t) m h x y = subst (TyParts (λ i. TyLow tys k i)) (sym (stand_first tys a t [] Ty-as-Num x)) h
+  own_low type k a b (a_type t) m h x y = subst (TyParts (λ i. TyLow tys k i)) (sym (stand_first tys a t [] TyAsNum x)) h
   own_low type k a b (a_world c) m h x y = absurd m
   own_low type k a b (a_term t) m h x y = absurd m
   own_low type k a b (a_station g j) m h x y = absurd m
@@ -151,7 +151,7 @@ module _ (tys : List Ty) (tms : List Term) where
   own_low world k a b M m h x y = tt
   own_low term k a b (a_type t) m h x y = absurd m
   own_low term k a b (a_world c) m h x y = absurd m
-  own_low term k a b (a_term t) m h x y = subst (TermParts (λ i. TermLow tms k i)) (sym (stand_first tms b t [] (Term-as-Num 0) y)) h
+  own_low term k a b (a_term t) m h x y = subst (TermParts (λ i. TermLow tms k i)) (sym (stand_first tms b t [] (TermAsNum 0) y)) h
   own_low term k a b (a_station g j) m h x y = absurd m
   own_low term k a b (a_start n) m h x y = absurd m
 

@@ -12,9 +12,9 @@ use Rattle.syntax.specs.declared.grammar.Form.{Form}
 use Rattle.syntax.specs.declared.grammar.Form.TheVariants.{TNum, TNone, TFn, TBox, TAt, TBoth, Site, Bound, Num, Val, Lam, App, Boxed, Unbox, Here, Letd, Getb, Getd, Getn, Pair, Fst, Snd, Letcc, Throw, Go, Gauge, Gate, Below, Station, Run}
 use Rattle.syntax.specs.declared.grammar.Sort.{Sort}
 use Rattle.syntax.specs.declared.grammar.Sort.TheVariants.{Types, Worlds, Terms, First, Further}
-use Rattle.syntax.specs.declared.program.World.TheVariants.{Site as World-as-Site, Bound as World-as-Bound}
-use Rattle.syntax.specs.declared.program.Ty.TheVariants.{Num as Ty-as-Num}
-use Rattle.syntax.specs.declared.program.Term.TheVariants.{Num as Term-as-Num}
+use Rattle.syntax.specs.declared.program.World.TheVariants.{Site as WorldAsSite, Bound as WorldAsBound}
+use Rattle.syntax.specs.declared.program.Ty.TheVariants.{Num as TyAsNum}
+use Rattle.syntax.specs.declared.program.Term.TheVariants.{Num as TermAsNum}
 use Rattle.syntax.proofs.Rows.{Makes, makes}
 use Rattle.syntax.proofs.Tables.{values_width}
 use Rattle.syntax.proofs.Exact.{read_right}
@@ -132,7 +132,7 @@ module _ (m l : ℕ) where
   world_good : (c n : ℕ) → Small n → WorldSound (world_by c n)
   world_good c n h = at (eqb c 0)
     where
-      at : (b : Bool) → WorldSound (cond b (World-as-Site n) (World-as-Bound n))
+      at : (b : Bool) → WorldSound (cond b (WorldAsSite n) (WorldAsBound n))
       at true = h
       at false = h
 
@@ -309,8 +309,8 @@ sound_table p r l =
     let m : ℕ = length (ty_rows t 0 0) in
     let n : ℕ = length (tm_rows t 0 0) in
     let s = rows_sound m n t (sub term ∷ []) 0 0 r.main (omega (arith, e.0)) (omega (arith, e.1)) in (
-      λ k h. subst (λ (i : ℕ). TySound (i + 1) m (get_or (ty_rows t 0 0) k Ty-as-Num)) (let z : 0 + k ≡ k = omega arith in z) (rows_at (λ i x. TySound (i + 1) m x) 0 (ty_rows t 0 0) Ty-as-Num k s.0 h),
-      λ k h. subst (λ (i : ℕ). TermSound m (i + 1) n (get_or (tm_rows t 0 0) k (Term-as-Num 0))) (let z : 0 + k ≡ k = omega arith in z) (rows_at (λ i x. TermSound m (i + 1) n x) 0 (tm_rows t 0 0) (Term-as-Num 0) k s.1 h),
+      λ k h. subst (λ (i : ℕ). TySound (i + 1) m (get_or (ty_rows t 0 0) k TyAsNum)) (let z : 0 + k ≡ k = omega arith in z) (rows_at (λ i x. TySound (i + 1) m x) 0 (ty_rows t 0 0) TyAsNum k s.0 h),
+      λ k h. subst (λ (i : ℕ). TermSound m (i + 1) n (get_or (tm_rows t 0 0) k (TermAsNum 0))) (let z : 0 + k ≡ k = omega arith in z) (rows_at (λ i x. TermSound m (i + 1) n x) 0 (tm_rows t 0 0) (TermAsNum 0) k s.1 h),
       (omega (arith, e.1, some_term t r.main), omega (arith, e.1, l.terms), omega (arith, e.0, l.types), r.some, l.stations, l.counts),
       r.start,
     )

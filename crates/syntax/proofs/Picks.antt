@@ -1,5 +1,5 @@
 -- What is known of a form that is one of a list.
-use Rattle.std.proofs.Common.{◌≡◌, ℕ, ◌+◌, ◌-◌, Bool, true, false, cond, List, [], ◌∷◌, ◌++◌, sym, refl, ap, ◌∙◌, subst, arith}
+use Rattle.std.proofs.Common.{◌≡◌, ℕ, ◌+◌, ◌-◌, false, List, [], ◌∷◌, sym, refl, ap, ◌∙◌, subst, arith}
 use Rattle.syntax.specs.Grammar.{Want, wants, words, forms, spelled_out, spelling}
 use Rattle.syntax.specs.Grammar.Stop.{close}
 use Rattle.syntax.specs.Grammar.Want.{number}
@@ -9,7 +9,7 @@ use Rattle.syntax.specs.Texts.In.{here, there}
 use Rattle.syntax.specs.Views.{Clean, Clear, from, longer}
 use Rattle.syntax.specs.declared.reader.Reader.{Reader}
 use Rattle.syntax.specs.declared.grammar.Form.{Form}
-use Rattle.syntax.specs.declared.grammar.Form.TheVariants.{Site, Bound, Num, Val, Lam, App, Boxed, Unbox, Here, Letd, Getb, Getd, Getn, Pair, Fst, Snd, Letcc, Throw, Go, Gauge, Gate, Below}
+use Rattle.syntax.specs.declared.grammar.Form.TheVariants.{Site, Bound, Num, Val, Boxed, Unbox, Here, Getb, Getd, Getn, Fst, Snd, Gauge}
 use Rattle.syntax.specs.declared.grammar.Sort.{Sort}
 use Rattle.syntax.specs.declared.grammar.Sort.TheVariants.{Worlds, Terms}
 

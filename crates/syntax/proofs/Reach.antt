@@ -14,7 +14,7 @@ use Rattle.syntax.specs.declared.grammar.Sort.TheVariants.{First}
 use Rattle.syntax.proofs.Steps.{go_cons, moved}
 use Rattle.syntax.proofs.Sound.{Plain, Fine, Sound, step_sound, plain_wants}
 use Rattle.syntax.proofs.Depths.{Inv, inv_start, inv_step, step_keeps, Keeps}
-use Rattle.syntax.proofs.Runs.{small as counted-small}
+use Rattle.syntax.proofs.Runs.{small as counted_small}
 
 -- reading the bytes has come to want ws, with s seen
 pub data Reach : List ℕ → List Want → Seen → Type 0 where
@@ -139,7 +139,7 @@ Halves before c (on vs q) = Half (before ++ c ∷ []) vs
 Halves before c (off n p) = p ≤ length before
 
 small : (k : Bool) (c : ℕ) → digit c ≡ true → counted k (c - 48) ≡ false
-small k c h = counted-small k (c - 48) (let z = and_parts (leb 48 c) (leb c 57) h in omega (arith, leb-true c 57 z.1))
+small k c h = counted_small k (c - 48) (let z = and_parts (leb 48 c) (leb c 57) h in omega (arith, leb-true c 57 z.1))
 
 half_step : (before : List ℕ) (s : Seen) (c : ℕ) {ws : List Want} {m : Move} → Stepped s (length before) c ws m → Fine ws → Half before ws → Halves before c m
 half_step before s c wrong p h = omega arith

@@ -1,9 +1,9 @@
 -- Writing the tables of a program gives its text.
-use Rattle.std.proofs.Common.{◌≡◌, ℕ, zero, suc, ◌+◌, ◌-◌, ◌<◌, ◌≤◌, max, Bool, true, false, cond, eqb, ◌⊎◌, List, [], ◌∷◌, ◌++◌, reverse, length, get_or, drop, codes, decimal, sym, refl, ap, ◌∙◌, subst, inl, inr, append_assoc, append-nil, arith, length-append}
+use Rattle.std.proofs.Common.{◌≡◌, ℕ, suc, ◌+◌, ◌-◌, ◌<◌, Bool, true, cond, eqb, ◌⊎◌, List, [], ◌∷◌, ◌++◌, reverse, length, get_or, drop, codes, decimal, sym, refl, ap, ◌∙◌, subst, inl, inr, append_assoc, append-nil, arith, length-append}
 use mathlib.Core.List.{reverse-append}
 use lib.Seq.{drop-append_seam}
 use Rattle.std.proofs.lemmas.List.{drop-drop, get_or-drop}
-use Rattle.syntax.specs.Grammar.{Part, Kind, Made, Want, row, parts, spelling, last, byte, sep, sort_of, width, cell, cells, words, forms, world_by, nth}
+use Rattle.syntax.specs.Grammar.{Part, Kind, Made, row, parts, spelling, last, byte, sep, sort_of, width, cell, cells, words, forms, world_by, nth}
 use Rattle.syntax.specs.Grammar.Part.{num, sub}
 use Rattle.syntax.specs.Grammar.Kind.{type, world, term}
 use Rattle.syntax.specs.Grammar.Made.{a_type, a_world, a_term, a_station, a_start}
@@ -22,9 +22,9 @@ use Rattle.syntax.specs.declared.grammar.Form.TheVariants.{TNum, TNone, TFn, TBo
 use Rattle.syntax.specs.declared.grammar.Sort.{Sort}
 use Rattle.syntax.specs.declared.grammar.Sort.TheVariants.{Types, Worlds, Terms}
 use Rattle.syntax.specs.declared.program.Ty.{Ty}
-use Rattle.syntax.specs.declared.program.Ty.TheVariants.{Num as Ty-as-Num}
+use Rattle.syntax.specs.declared.program.Ty.TheVariants.{Num as TyAsNum}
 use Rattle.syntax.specs.declared.program.Term.{Term}
-use Rattle.syntax.specs.declared.program.Term.TheVariants.{Num as Term-as-Num}
+use Rattle.syntax.specs.declared.program.Term.TheVariants.{Num as TermAsNum}
 use Rattle.syntax.proofs.Rows.{listed}
 use Rattle.syntax.proofs.Picks.{All, in_all}
 use Rattle.syntax.proofs.Tables.{values_width}
@@ -210,17 +210,17 @@ stop_sep f (form g t r) (p ∷ ps) h = refl
 
 abbrev type_of : Made → Ty
 type_of (a_type t) = t
-type_of (a_world c) = Ty-as-Num
-type_of (a_term t) = Ty-as-Num
-type_of (a_station g h) = Ty-as-Num
-type_of (a_start n) = Ty-as-Num
+type_of (a_world c) = TyAsNum
+type_of (a_term t) = TyAsNum
+type_of (a_station g h) = TyAsNum
+type_of (a_start n) = TyAsNum
 
 abbrev term_of : Made → Term
-term_of (a_type t) = Term-as-Num 0
-term_of (a_world c) = Term-as-Num 0
+term_of (a_type t) = TermAsNum 0
+term_of (a_world c) = TermAsNum 0
 term_of (a_term t) = t
-term_of (a_station g h) = Term-as-Num 0
-term_of (a_start n) = Term-as-Num 0
+term_of (a_station g h) = TermAsNum 0
+term_of (a_start n) = TermAsNum 0
 
 abbrev kind_of : Made → ℕ
 kind_of (a_type t) = 0
@@ -375,14 +375,14 @@ module _ (T : List Ty) (M : List Term) where
     part_is : (kd : Kind) → In (spelling g) g (words (sort_of kd)) → Stands T a (ty_row ((row g).make vs)) → Stands M b (tm_row ((row g).make vs)) → PartIs kd
     part_is type m p q x =
         let c = in_all TypeText (spelling g) g (forms Types) m type_texts vs w k a b x in
-        let e : type_at T a ≡ type_of ((row g).make vs) = stands_at T a (type_of ((row g).make vs)) [] Ty-as-Num (subst (λ (l : List Ty). Stands T a l) c.1 p) in
+        let e : type_at T a ≡ type_of ((row g).make vs) = stands_at T a (type_of ((row g).make vs)) [] TyAsNum (subst (λ (l : List Ty). Stands T a l) c.1 p) in
         (ap (λ (l : List ℕ). part_text k (sub type) (reverse l ++ rest) ++ x) c.2 ∙ form_type g m vs w k a pos e x, ap (λ (l : List ℕ). drop 1 (reverse l ++ rest)) c.2)
     part_is world m p q x =
         let c = in_all WorldText (spelling g) g (forms Worlds) m world_texts vs w a b x in
         (ap (λ (l : List ℕ). part_text k (sub world) (reverse l ++ rest) ++ x) c.0 ∙ c.1 (k - 1), ap (λ (l : List ℕ). drop 2 (reverse l ++ rest)) c.0)
     part_is term m p q x =
         let c = in_all TermText (spelling g) g (forms Terms) m term_texts vs w k a b x in
-        let e : nth_term M b ≡ term_of ((row g).make vs) = stands_at M b (term_of ((row g).make vs)) [] (Term-as-Num 0) (subst (λ (l : List Term). Stands M b l) c.1 q) in
+        let e : nth_term M b ≡ term_of ((row g).make vs) = stands_at M b (term_of ((row g).make vs)) [] (TermAsNum 0) (subst (λ (l : List Term). Stands M b l) c.1 q) in
         (ap (λ (l : List ℕ). part_text k (sub term) (reverse l ++ rest) ++ x) c.2 ∙ form_term g m vs w k b pos e x, ap (λ (l : List ℕ). drop 1 (reverse l ++ rest)) c.2)
 
   -- the parts of a tree are written as the tables have them

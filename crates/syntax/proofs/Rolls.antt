@@ -1,15 +1,15 @@
 -- The lines of a text: how each begins, and how it ends.
-use Rattle.std.proofs.Common.{◌≡◌, ℕ, ◌+◌, ◌-◌, ◌<◌, ◌≤◌, Bool, true, false, cond, ◌&&◌, eqb, leb, List, [], ◌∷◌, ◌++◌, length, sym, refl, ap, ◌∙◌, subst, arith}
-use Rattle.std.proofs.lemmas.Bool.{eq-eqb, eqb-true, le-leb, lt-leb, and_right, both_ways}
-use Rattle.syntax.specs.Grammar.{Want, words, spelled_out, wants}
-use Rattle.syntax.specs.Grammar.Want.{item, word, stop}
+use Rattle.std.proofs.Common.{◌≡◌, ℕ, ◌+◌, ◌<◌, ◌≤◌, Bool, true, false, cond, eqb, leb, List, [], ◌∷◌, length, sym, refl, ap, ◌∙◌, arith}
+use Rattle.std.proofs.lemmas.Bool.{eqb-true, le-leb, lt-leb, and_right}
+use Rattle.syntax.specs.Grammar.{Want, words, spelled_out}
+use Rattle.syntax.specs.Grammar.Want.{word}
 use Rattle.syntax.specs.declared.grammar.Form.{Form}
-use Rattle.syntax.specs.declared.grammar.Form.TheVariants.{Station, Run}
-use Rattle.syntax.specs.declared.grammar.Sort.TheVariants.{First, Further}
-use Rattle.syntax.specs.Reading.{Seen, go, step, after, many, spelled, over}
-use Rattle.syntax.specs.Reading.Outcome.{done, refused}
-use Rattle.syntax.specs.Views.{agreed, Clear, Clean}
-use Rattle.syntax.proofs.Steps.{go_cons, go_some, go_none, moved}
+use Rattle.syntax.specs.declared.grammar.Form.TheVariants.{Run}
+use Rattle.syntax.specs.declared.grammar.Sort.TheVariants.{Further}
+use Rattle.syntax.specs.Reading.{Seen, go, after, spelled}
+use Rattle.syntax.specs.Reading.Outcome.{refused}
+use Rattle.syntax.specs.Views.{agreed, Clear}
+use Rattle.syntax.proofs.Steps.{go_cons, moved}
 use Rattle.syntax.proofs.Finds.{agreed_all}
 use Rattle.syntax.proofs.Picks.{back, clear_all}
 

@@ -11,7 +11,7 @@ use Rattle.syntax.proofs.Texts.Text.{end, past, nought, some, rest, pick, spell}
 use Rattle.syntax.specs.Promises.{OneCount}
 use Rattle.syntax.specs.Trees.{Prog, Right, print}
 use Rattle.syntax.specs.Refusals.{New, new_item, new_number, noted, begun_in, Nth}
-use Rattle.syntax.proofs.Places.{Longer as Goes-beyond, splits, nothing}
+use Rattle.syntax.proofs.Places.{Longer as GoesBeyond, splits, nothing}
 use Rattle.syntax.proofs.Gather.{gathered}
 use Rattle.syntax.proofs.Spelled.{spelt_out}
 use Rattle.syntax.proofs.Theory.{Follows, takes, mark, beyond, places_first, no_digit}
@@ -69,16 +69,16 @@ module _ (i n : ℕ) (past l r b : List ℕ) (low : Below i past) (high : Above 
   sorted true e = (
     refl,
     ⊎_elim (λ (q : l ≡ past). ap (λ (x : List ℕ). length x) (sym q) ∙ size)
-        (⊎_elim (λ (q : Goes-beyond l past (i ∷ r)). absurd (let d-is : q.d ≡ i = (let z = q.rest in cc) in not_below i l q.y (subst (Below i) (q.is ∙ ap (λ (x : ℕ). l ++ x ∷ q.y) d-is) low)))
-        (λ (q : Goes-beyond past l (i ∷ b)). absurd
+        (⊎_elim (λ (q : GoesBeyond l past (i ∷ r)). absurd (let d-is : q.d ≡ i = (let z = q.rest in cc) in not_below i l q.y (subst (Below i) (q.is ∙ ap (λ (x : ℕ). l ++ x ∷ q.y) d-is) low)))
+        (λ (q : GoesBeyond past l (i ∷ b)). absurd
         (let z : i ∷ b ≡ q.d ∷ (q.y ++ i ∷ r) = append_cancel_left past (i ∷ b) (q.d ∷ (q.y ++ i ∷ r)) (e ∙ ap (λ (x : List ℕ). x ++ i ∷ r) q.is ∙ append_assoc past (q.d ∷ q.y) (i ∷ r)) in
         let y : b ≡ q.y ++ i ∷ r = cc in not_above i q.y r (subst (Above (i + 1)) y high))))
         (splits l (i ∷ r) past (i ∷ b) (sym e)),
   )
   sorted false e = absurd (⊎_elim
       (λ (q : l ≡ past). let z : b ≡ i ∷ r = append_cancel_left past b (i ∷ r) (e ∙ ap (λ (x : List ℕ). x ++ i ∷ r) q) in not_above i [] r (subst (Above (i + 1)) z high))
-      (⊎_elim (λ (q : Goes-beyond l past (i ∷ r)). let d-is : q.d ≡ i = (let z = q.rest in cc) in not_below i l q.y (subst (Below i) (q.is ∙ ap (λ (x : ℕ). l ++ x ∷ q.y) d-is) low))
-      (λ (q : Goes-beyond past l b). let z : b ≡ q.d ∷ (q.y ++ i ∷ r) = append_cancel_left past b (q.d ∷ (q.y ++ i ∷ r)) (e ∙ ap (λ (x : List ℕ). x ++ i ∷ r) q.is ∙ append_assoc past (q.d ∷ q.y) (i ∷ r)) in
+      (⊎_elim (λ (q : GoesBeyond l past (i ∷ r)). let d-is : q.d ≡ i = (let z = q.rest in cc) in not_below i l q.y (subst (Below i) (q.is ∙ ap (λ (x : ℕ). l ++ x ∷ q.y) d-is) low))
+      (λ (q : GoesBeyond past l b). let z : b ≡ q.d ∷ (q.y ++ i ∷ r) = append_cancel_left past b (q.d ∷ (q.y ++ i ∷ r)) (e ∙ ap (λ (x : List ℕ). x ++ i ∷ r) q.is ∙ append_assoc past (q.d ∷ q.y) (i ∷ r)) in
       not_above i (q.d ∷ q.y) r (subst (Above (i + 1)) z high)))
       (splits l (i ∷ r) past b (sym e)))
 

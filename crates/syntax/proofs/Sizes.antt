@@ -13,7 +13,7 @@ use Rattle.syntax.specs.declared.grammar.Form.{Form}
 use Rattle.syntax.specs.declared.grammar.Form.TheVariants.{TNum, TNone, TFn, TBox, TAt, TBoth, Site, Bound, Num, Val, Lam, App, Boxed, Unbox, Here, Letd, Getb, Getd, Getn, Pair, Fst, Snd, Letcc, Throw, Go, Gauge, Gate, Below, Station, Run}
 use Rattle.syntax.specs.declared.grammar.Sort.{Sort}
 use Rattle.syntax.specs.declared.program.Term.{Term}
-use Rattle.syntax.specs.declared.program.Term.TheVariants.{Num as Term-as-Num, Value as Term-as-Value, Lam as Term-as-Lam, App as Term-as-App, Boxed as Term-as-Boxed, Unbox as Term-as-Unbox, Here as Term-as-Here, Letd as Term-as-Letd, Get as Term-as-Get, Pair as Term-as-Pair, Fst as Term-as-Fst, Snd as Term-as-Snd, Letcc as Term-as-Letcc, Throw as Term-as-Throw, Go as Term-as-Go, Gauge as Term-as-Gauge, Gate as Term-as-Gate, Below as Term-as-Below}
+use Rattle.syntax.specs.declared.program.Term.TheVariants.{Num as TermAsNum, Value as TermAsValue, Lam as TermAsLam, App as TermAsApp, Boxed as TermAsBoxed, Unbox as TermAsUnbox, Here as TermAsHere, Letd as TermAsLetd, Get as TermAsGet, Pair as TermAsPair, Fst as TermAsFst, Snd as TermAsSnd, Letcc as TermAsLetcc, Throw as TermAsThrow, Go as TermAsGo, Gauge as TermAsGauge, Gate as TermAsGate, Below as TermAsBelow}
 use Rattle.syntax.proofs.Rows.{Makes, makes, no_line}
 use Rattle.syntax.proofs.Tables.{values_width}
 use Rattle.syntax.proofs.Exact.{read_right}
@@ -24,45 +24,45 @@ use Rattle.syntax.proofs.Heights.{term_map, Stand, stand_left, stand_right, stan
 
 -- the same of each part, the same of the term
 with_same : (f g : ℕ → ℕ) (t : Term) → TermParts (λ a. f a ≡ g a) t → with_parts f t ≡ with_parts g t
-with_same f g (Term-as-Num n) h = refl
-with_same f g (Term-as-Value n) h = refl
-with_same f g (Term-as-Lam t a) h = omega arith
-with_same f g (Term-as-App a b) h = omega (arith, h.0, h.1)
-with_same f g (Term-as-Boxed a) h = omega arith
-with_same f g (Term-as-Unbox a) h = omega arith
-with_same f g (Term-as-Here a) h = omega arith
-with_same f g (Term-as-Letd a b) h = omega (arith, h.0, h.1)
-with_same f g (Term-as-Get m w a) h = omega arith
-with_same f g (Term-as-Pair a b) h = omega (arith, h.0, h.1)
-with_same f g (Term-as-Fst a) h = omega arith
-with_same f g (Term-as-Snd a) h = omega arith
-with_same f g (Term-as-Letcc t a) h = omega arith
-with_same f g (Term-as-Throw t n a) h = omega arith
-with_same f g (Term-as-Go t w a) h = omega arith
-with_same f g (Term-as-Gauge n) h = refl
-with_same f g (Term-as-Gate n a) h = omega arith
-with_same f g (Term-as-Below t a b x y) h = omega (arith, h.0, h.1, h.2, h.3)
+with_same f g (TermAsNum n) h = refl
+with_same f g (TermAsValue n) h = refl
+with_same f g (TermAsLam t a) h = omega arith
+with_same f g (TermAsApp a b) h = omega (arith, h.0, h.1)
+with_same f g (TermAsBoxed a) h = omega arith
+with_same f g (TermAsUnbox a) h = omega arith
+with_same f g (TermAsHere a) h = omega arith
+with_same f g (TermAsLetd a b) h = omega (arith, h.0, h.1)
+with_same f g (TermAsGet m w a) h = omega arith
+with_same f g (TermAsPair a b) h = omega (arith, h.0, h.1)
+with_same f g (TermAsFst a) h = omega arith
+with_same f g (TermAsSnd a) h = omega arith
+with_same f g (TermAsLetcc t a) h = omega arith
+with_same f g (TermAsThrow t n a) h = omega arith
+with_same f g (TermAsGo t w a) h = omega arith
+with_same f g (TermAsGauge n) h = refl
+with_same f g (TermAsGate n a) h = omega arith
+with_same f g (TermAsBelow t a b x y) h = omega (arith, h.0, h.1, h.2, h.3)
 
 -- the parts of a sound term come after it
 parts_after : (m low high : ℕ) (t : Term) → TermSound m (low + 1) high t → TermParts (λ a. low < a) t
-parts_after m low high (Term-as-Num n) h = tt
-parts_after m low high (Term-as-Value n) h = tt
-parts_after m low high (Term-as-Lam t a) h = omega (arith, h.1.0)
-parts_after m low high (Term-as-App a b) h = (omega (arith, h.0.0), omega (arith, h.1.0))
-parts_after m low high (Term-as-Boxed a) h = omega (arith, h.0)
-parts_after m low high (Term-as-Unbox a) h = omega (arith, h.0)
-parts_after m low high (Term-as-Here a) h = omega (arith, h.0)
-parts_after m low high (Term-as-Letd a b) h = (omega (arith, h.0.0), omega (arith, h.1.0))
-parts_after m low high (Term-as-Get g w a) h = omega (arith, h.1.0)
-parts_after m low high (Term-as-Pair a b) h = (omega (arith, h.0.0), omega (arith, h.1.0))
-parts_after m low high (Term-as-Fst a) h = omega (arith, h.0)
-parts_after m low high (Term-as-Snd a) h = omega (arith, h.0)
-parts_after m low high (Term-as-Letcc t a) h = omega (arith, h.1.0)
-parts_after m low high (Term-as-Throw t n a) h = omega (arith, h.2.0)
-parts_after m low high (Term-as-Go t w a) h = omega (arith, h.2.0)
-parts_after m low high (Term-as-Gauge n) h = tt
-parts_after m low high (Term-as-Gate n a) h = omega (arith, h.1.0)
-parts_after m low high (Term-as-Below t a b x y) h = (omega (arith, h.1.0), omega (arith, h.2.0), omega (arith, h.3.0), omega (arith, h.4.0))
+parts_after m low high (TermAsNum n) h = tt
+parts_after m low high (TermAsValue n) h = tt
+parts_after m low high (TermAsLam t a) h = omega (arith, h.1.0)
+parts_after m low high (TermAsApp a b) h = (omega (arith, h.0.0), omega (arith, h.1.0))
+parts_after m low high (TermAsBoxed a) h = omega (arith, h.0)
+parts_after m low high (TermAsUnbox a) h = omega (arith, h.0)
+parts_after m low high (TermAsHere a) h = omega (arith, h.0)
+parts_after m low high (TermAsLetd a b) h = (omega (arith, h.0.0), omega (arith, h.1.0))
+parts_after m low high (TermAsGet g w a) h = omega (arith, h.1.0)
+parts_after m low high (TermAsPair a b) h = (omega (arith, h.0.0), omega (arith, h.1.0))
+parts_after m low high (TermAsFst a) h = omega (arith, h.0)
+parts_after m low high (TermAsSnd a) h = omega (arith, h.0)
+parts_after m low high (TermAsLetcc t a) h = omega (arith, h.1.0)
+parts_after m low high (TermAsThrow t n a) h = omega (arith, h.2.0)
+parts_after m low high (TermAsGo t w a) h = omega (arith, h.2.0)
+parts_after m low high (TermAsGauge n) h = tt
+parts_after m low high (TermAsGate n a) h = omega (arith, h.1.0)
+parts_after m low high (TermAsBelow t a b x y) h = (omega (arith, h.1.0), omega (arith, h.2.0), omega (arith, h.3.0), omega (arith, h.4.0))
 
 -- the sizes of the rows after the first few
 sizes_after : (k : ℕ) (xs ys : List Term) (j : ℕ) → get_or (sizes k (xs ++ ys)) (length xs + j) 0 ≡ get_or (sizes (k + length xs) ys) j 0
@@ -94,16 +94,16 @@ size_stand tms n r rs s h =
     ∙ with_same g (size tms) r (term_map (λ a. n < a) (λ a. g a ≡ size tms a) later r h)
 
 -- the size of each term of sound tables, by its parts
-pub size_at : (t : Tables) → TermsSound t → (n : ℕ) → n < length t.tms → size t.tms n ≡ with_parts (size t.tms) (get_or t.tms n (Term-as-Num 0))
+pub size_at : (t : Tables) → TermsSound t → (n : ℕ) → n < length t.tms → size t.tms n ≡ with_parts (size t.tms) (get_or t.tms n (TermAsNum 0))
 size_at t sound n h =
     let tms : List Term = t.tms in
-    let r : Term = get_or tms n (Term-as-Num 0) in
-    size_stand tms n r [] (take n tms, (drop (suc n) tms, (split_at tms n (Term-as-Num 0) h, simp length-take (omega arith)))) (parts_after (length t.tys) n (length tms) r (sound n h))
+    let r : Term = get_or tms n (TermAsNum 0) in
+    size_stand tms n r [] (take n tms, (drop (suc n) tms, (split_at tms n (TermAsNum 0) h, simp length-take (omega arith)))) (parts_after (length t.tys) n (length tms) r (sound n h))
 
 stand_length : {A : Type 0} (xs : List A) (n : ℕ) (y : A) (ys : List A) → Stand xs n (y ∷ ys) → n < length xs
 stand_length xs n y ys h = let e = simp length-append at (ap length h.1.1.0) in omega (arith, e, h.1.1.1)
 
-module _ (tms : List Term) (sized : (n : ℕ) → n < length tms → size tms n ≡ with_parts (size tms) (get_or tms n (Term-as-Num 0))) where
+module _ (tms : List Term) (sized : (n : ℕ) → n < length tms → size tms n ≡ with_parts (size tms) (get_or tms n (TermAsNum 0))) where
   -- how many terms there are in those of the parts that are terms
   abbrev total : List Part → List ℕ → ℕ
   total [] v = 0
@@ -179,7 +179,7 @@ module _ (tms : List Term) (sized : (n : ℕ) → n < length tms → size tms n 
   own_size term ps v (a_term t) a b w m e y =
       let i = total_more ps v (b ∷ []) (omega arith) in
       let z : nth (width ps) (v ++ b ∷ []) ≡ b = get_or_at v b [] 0 (width ps) e in
-      let k : size tms (nth (width ps) (v ++ b ∷ [])) ≡ with_parts (size tms) t = ap (size tms) z ∙ sized b (stand_length tms b t [] y) ∙ ap (with_parts (size tms)) (stand_first tms b t [] (Term-as-Num 0) y) in
+      let k : size tms (nth (width ps) (v ++ b ∷ [])) ≡ with_parts (size tms) t = ap (size tms) z ∙ sized b (stand_length tms b t [] y) ∙ ap (with_parts (size tms)) (stand_first tms b t [] (TermAsNum 0) y) in
       omega (arith, i, k)
   own_size term ps v (a_station g j) a b w m e y = absurd m
   own_size term ps v (a_start n) a b w m e y = absurd m

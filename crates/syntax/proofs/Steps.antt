@@ -1,11 +1,11 @@
 -- One byte of the definition, at a place of the text.
-use Rattle.std.proofs.Common.{◌≡◌, ℕ, suc, ◌+◌, ◌-◌, ◌*◌, ◌<◌, ◌≤◌, Bool, true, false, cond, ◌&&◌, eqb, ltb, List, [], ◌∷◌, length, get_or, drop, sym, refl, ap, ◌∙◌, add-one, arith}
+use Rattle.std.proofs.Common.{◌≡◌, ℕ, ◌+◌, ◌-◌, ◌*◌, ◌<◌, ◌≤◌, Bool, true, false, cond, eqb, List, [], ◌∷◌, sym, refl, ap, ◌∙◌}
 use Rattle.std.proofs.lemmas.Bool.{eq-eqb, ne_eqb, lt-ltb, le-ltb, both_ways}
 use Rattle.syntax.specs.Grammar.{Want, Stop, byte}
 use Rattle.syntax.specs.Grammar.Want.{stop, number, digits}
 use Rattle.syntax.specs.Reading.{Seen, Move, Outcome, go, step, over, passed, push, digit, counted}
 use Rattle.syntax.specs.Reading.Move.{on, off}
-use Rattle.syntax.specs.Reading.Outcome.{done, refused}
+use Rattle.syntax.specs.Reading.Outcome.{refused}
 
 -- what a move leads to
 abbrev pub moved : List ℕ → ℕ → Move → Outcome

@@ -13,9 +13,9 @@ use Rattle.syntax.specs.declared.grammar.Form.{Form}
 use Rattle.syntax.specs.declared.grammar.Sort.{Sort}
 use Rattle.syntax.specs.declared.grammar.Sort.TheVariants.{Types, Worlds, Terms}
 use Rattle.syntax.specs.declared.program.Ty.{Ty}
-use Rattle.syntax.specs.declared.program.Ty.TheVariants.{Num as Ty-as-Num}
+use Rattle.syntax.specs.declared.program.Ty.TheVariants.{Num as TyAsNum}
 use Rattle.syntax.specs.declared.program.Term.{Term}
-use Rattle.syntax.specs.declared.program.Term.TheVariants.{Num as Term-as-Num}
+use Rattle.syntax.specs.declared.program.Term.TheVariants.{Num as TermAsNum}
 use Rattle.instruments.specs.declared.sheet.Station.{Station as Counts}
 use Rattle.syntax.proofs.Rows.{Makes, makes, own_width}
 use Rattle.syntax.proofs.Forms.{put, put_sizes, form_sizes}
@@ -111,19 +111,19 @@ module _ (g : Form) (t : Parts) (fit : Fit t (parts g)) (rows : Rows t) (v : Lis
   closes_type k =
       let vs : List ℕ = values t (a + 1) (b + 0) in
       let h = values_width t (parts g) (a + 1) (b + 0) fit in
-      ap (λ (l : ℕ). passed (close g) (put t (seen (l ∷ v) (cond br (d + 1) d) (T ++ Ty-as-Num ∷ []) M H n))) (sym p)
-      ∙ ap (passed (close g)) (rows (a ∷ v) (cond br (d + 1) d) (T ++ Ty-as-Num ∷ []) M H n (a + 1) (b + 0) (omega (arith, length_push T Ty-as-Num)) (omega arith))
-      ∙ shuts vs (a ∷ v) ((T ++ Ty-as-Num ∷ []) ++ ty_rows t (a + 1) (b + 0)) (M ++ tm_rows t (a + 1) (b + 0)) h
-      ∙ settled_type w vs v d a b T (ty_rows t (a + 1) (b + 0)) M (tm_rows t (a + 1) (b + 0)) H n h ((row g).make vs) Ty-as-Num (k vs) p
+      ap (λ (l : ℕ). passed (close g) (put t (seen (l ∷ v) (cond br (d + 1) d) (T ++ TyAsNum ∷ []) M H n))) (sym p)
+      ∙ ap (passed (close g)) (rows (a ∷ v) (cond br (d + 1) d) (T ++ TyAsNum ∷ []) M H n (a + 1) (b + 0) (omega (arith, length_push T TyAsNum)) (omega arith))
+      ∙ shuts vs (a ∷ v) ((T ++ TyAsNum ∷ []) ++ ty_rows t (a + 1) (b + 0)) (M ++ tm_rows t (a + 1) (b + 0)) h
+      ∙ settled_type w vs v d a b T (ty_rows t (a + 1) (b + 0)) M (tm_rows t (a + 1) (b + 0)) H n h ((row g).make vs) TyAsNum (k vs) p
 
   closes_term : ((x : List ℕ) → Makes Terms ((row g).make x)) → Closes Terms
   closes_term k =
       let vs : List ℕ = values t (a + 0) (b + 1) in
       let h = values_width t (parts g) (a + 0) (b + 1) fit in
-      ap (λ (l : ℕ). passed (close g) (put t (seen (l ∷ v) (cond br (d + 1) d) T (M ++ Term-as-Num 0 ∷ []) H n))) (sym q)
-      ∙ ap (passed (close g)) (rows (b ∷ v) (cond br (d + 1) d) T (M ++ Term-as-Num 0 ∷ []) H n (a + 0) (b + 1) (omega arith) (omega (arith, length_push M (Term-as-Num 0))))
-      ∙ shuts vs (b ∷ v) (T ++ ty_rows t (a + 0) (b + 1)) ((M ++ Term-as-Num 0 ∷ []) ++ tm_rows t (a + 0) (b + 1)) h
-      ∙ settled_term w vs v d a b T (ty_rows t (a + 0) (b + 1)) M (tm_rows t (a + 0) (b + 1)) H n h ((row g).make vs) (Term-as-Num 0) (k vs) q
+      ap (λ (l : ℕ). passed (close g) (put t (seen (l ∷ v) (cond br (d + 1) d) T (M ++ TermAsNum 0 ∷ []) H n))) (sym q)
+      ∙ ap (passed (close g)) (rows (b ∷ v) (cond br (d + 1) d) T (M ++ TermAsNum 0 ∷ []) H n (a + 0) (b + 1) (omega arith) (omega (arith, length_push M (TermAsNum 0))))
+      ∙ shuts vs (b ∷ v) (T ++ ty_rows t (a + 0) (b + 1)) ((M ++ TermAsNum 0 ∷ []) ++ tm_rows t (a + 0) (b + 1)) h
+      ∙ settled_term w vs v d a b T (ty_rows t (a + 0) (b + 1)) M (tm_rows t (a + 0) (b + 1)) H n h ((row g).make vs) (TermAsNum 0) (k vs) q
 
   closes_world : ((x : List ℕ) → Makes Worlds ((row g).make x)) → Closes Worlds
   closes_world k =

@@ -18,7 +18,7 @@ use Rattle.syntax.proofs.Forms.{begun_sizes, settled_sizes}
 use Rattle.syntax.proofs.Reach.{Stepped, Reach, held, step_is}
 use Rattle.syntax.proofs.Reach.Reach.{begin, next}
 use Rattle.syntax.proofs.Begun.{Lined, line_step}
-use Rattle.syntax.proofs.Texts.{Whole as Text-whole}
+use Rattle.syntax.proofs.Texts.{Whole as TextWhole}
 use Rattle.syntax.proofs.Reach.Stepped.{wrong, stopped, zeroed, digited, numbered, longer, passes, deeper, fuller, started, whole, letter, crowded}
 
 -- how many types and terms were begun
@@ -126,7 +126,7 @@ noted_first true i l = refl
 noted_first false i l = refl
 
 -- a text that begins with what was read: what is left of it, and what began before
-pub record Way (before : List ℕ) (ws : List Want) (s : Seen) (t : Text-whole) (rest : List ℕ) : Type 0 where
+pub record Way (before : List ℕ) (ws : List Want) (s : Seen) (t : TextWhole) (rest : List ℕ) : Type 0 where
   pub left : Text ws
   pub is : shown left ≡ rest
   pub past : New → List ℕ
@@ -136,7 +136,7 @@ pub record Way (before : List ℕ) (ws : List Want) (s : Seen) (t : Text-whole) 
   pub lines : Lined before (past new_line) ws (length s.stations)
   pub count : Counting (past new_count) ws
 
-way_step : (before : List ℕ) (ws : List Want) (s : Seen) (t : Text-whole) (c : ℕ) (rest : List ℕ) (vs : List Want) (q : Seen) → Fine ws → step ws s (length before) c ≡ on vs q → Way before ws s t (c ∷ rest) → Way (before ++ c ∷ []) vs q t rest
+way_step : (before : List ℕ) (ws : List Want) (s : Seen) (t : TextWhole) (c : ℕ) (rest : List ℕ) (vs : List Want) (q : Seen) → Fine ws → step ws s (length before) c ≡ on vs q → Way before ws s t (c ∷ rest) → Way (before ++ c ∷ []) vs q t rest
 way_step before ws s t c rest vs q f e w =
     let i : ℕ = length before in
     let n : length (before ++ c ∷ []) ≡ i + 1 = length_push before c in
@@ -154,7 +154,7 @@ way_step before ws s t c rest vs q f e w =
       count = count_step (w.past new_count) s i c d f w.count;
     }
 
-pub way : {before : List ℕ} {ws : List Want} {s : Seen} → Reach before ws s → (t : Text-whole) (rest : List ℕ) → shown t ≡ before ++ rest → Way before ws s t rest
+pub way : {before : List ℕ} {ws : List Want} {s : Seen} → Reach before ws s → (t : TextWhole) (rest : List ℕ) → shown t ≡ before ++ rest → Way before ws s t rest
 way begin t rest e = record {
   left = t;
   is = e;

@@ -9,10 +9,10 @@ use Rattle.syntax.specs.Sound.{sizes}
 use Rattle.syntax.specs.Trees.{Parts, Prog, print, table}
 use Rattle.syntax.specs.Trees.Parts.{none, number, form}
 use Rattle.syntax.specs.declared.grammar.Form.TheVariants.{TNum, TBox, TAt, Site, Bound, Val, Lam, Letd, Getb, Getn, Gauge, Gate}
-use Rattle.syntax.specs.declared.program.Ty.TheVariants.{Num as Ty-as-Num, Never as Ty-as-Never, Fn as Ty-as-Fn, Boxed as Ty-as-Boxed, At as Ty-as-At}
-use Rattle.syntax.specs.declared.program.World.TheVariants.{Site as World-as-Site, Bound as World-as-Bound}
+use Rattle.syntax.specs.declared.program.Ty.TheVariants.{Num as TyAsNum, Never as TyAsNever, Fn as TyAsFn, Boxed as TyAsBoxed, At as TyAsAt}
+use Rattle.syntax.specs.declared.program.World.TheVariants.{Site as WorldAsSite, Bound as WorldAsBound}
 use Rattle.syntax.specs.declared.program.Mobile.TheVariants.{Code, Number}
-use Rattle.syntax.specs.declared.program.Term.TheVariants.{Num as Term-as-Num, Value as Term-as-Value, Lam as Term-as-Lam, App as Term-as-App, Here as Term-as-Here, Letd as Term-as-Letd, Get as Term-as-Get, Letcc as Term-as-Letcc, Throw as Term-as-Throw, Go as Term-as-Go, Gauge as Term-as-Gauge, Gate as Term-as-Gate}
+use Rattle.syntax.specs.declared.program.Term.TheVariants.{Num as TermAsNum, Value as TermAsValue, Lam as TermAsLam, App as TermAsApp, Here as TermAsHere, Letd as TermAsLetd, Get as TermAsGet, Letcc as TermAsLetcc, Throw as TermAsThrow, Go as TermAsGo, Gauge as TermAsGauge, Gate as TermAsGate}
 
 abbrev one : Prog
 one = record {
@@ -25,7 +25,7 @@ one_text : print one ≡ codes "(station 1 0)" ++ 10 ∷ codes "(station 0 1)" +
 unfolding digits
 one_text = refl
 
-one_table : (table one).tms ≡ Term-as-Gate 0 1 ∷ Term-as-Get Number (World-as-Site 0) 2 ∷ Term-as-Gauge 0 ∷ []
+one_table : (table one).tms ≡ TermAsGate 0 1 ∷ TermAsGet Number (WorldAsSite 0) 2 ∷ TermAsGauge 0 ∷ []
 one_table = refl
 
 abbrev value : Parts
@@ -42,10 +42,10 @@ three_text : print three ≡ codes "(station 32 0)" ++ 10 ∷ codes "(run 0 (lam
 unfolding digits
 three_text = refl
 
-three_types : (table three).tys ≡ Ty-as-At 1 ∷ Ty-as-Boxed 2 ∷ Ty-as-Num ∷ []
+three_types : (table three).tys ≡ TyAsAt 1 ∷ TyAsBoxed 2 ∷ TyAsNum ∷ []
 three_types = refl
 
-three_terms : (table three).tms ≡ Term-as-Lam 0 1 ∷ Term-as-Letd 2 3 ∷ Term-as-Value 0 ∷ Term-as-Get Code (World-as-Bound 0) 4 ∷ Term-as-Value 0 ∷ []
+three_terms : (table three).tms ≡ TermAsLam 0 1 ∷ TermAsLetd 2 3 ∷ TermAsValue 0 ∷ TermAsGet Code (WorldAsBound 0) 4 ∷ TermAsValue 0 ∷ []
 three_terms = refl
 
 -- How many terms there are in each.
@@ -82,7 +82,7 @@ digit_refused : read (codes "(station 3x 0)") ≡ refused 11 10
 unfolding go
 digit_refused = refl
 
-lam_read : read (codes "(station 1 0)" ++ 10 ∷ codes "(run 0 (lam (fn num none) (getn (w 0) (num 65535))))" ++ 10 ∷ []) ≡ done (record { vals = []; depth = 0; tys = Ty-as-Fn 1 2 ∷ Ty-as-Num ∷ Ty-as-Never ∷ []; tms = Term-as-Lam 0 1 ∷ Term-as-Get Number (World-as-Bound 0) 2 ∷ Term-as-Num 65535 ∷ []; stations = record { gauges = 1; gates = 0 } ∷ []; start = 0 })
+lam_read : read (codes "(station 1 0)" ++ 10 ∷ codes "(run 0 (lam (fn num none) (getn (w 0) (num 65535))))" ++ 10 ∷ []) ≡ done (record { vals = []; depth = 0; tys = TyAsFn 1 2 ∷ TyAsNum ∷ TyAsNever ∷ []; tms = TermAsLam 0 1 ∷ TermAsGet Number (WorldAsBound 0) 2 ∷ TermAsNum 65535 ∷ []; stations = record { gauges = 1; gates = 0 } ∷ []; start = 0 })
 unfolding go
 lam_read = refl
 
@@ -110,30 +110,30 @@ long_count_refused : read (codes "(station 99999") ≡ refused 14 9
 unfolding go
 long_count_refused = refl
 
-program1 : read (codes "(station 1 0)" ++ 10 ∷ codes "(station 0 1)" ++ 10 ∷ codes "(run 1 (gate 0 (getn (site 0) (gauge 0))))" ++ 10 ∷ []) ≡ done (record { vals = []; depth = 0; tys = []; tms = Term-as-Gate 0 1 ∷ Term-as-Get Number (World-as-Site 0) 2 ∷ Term-as-Gauge 0 ∷ []; stations = record { gauges = 1; gates = 0 } ∷ record { gauges = 0; gates = 1 } ∷ []; start = 1 })
+program1 : read (codes "(station 1 0)" ++ 10 ∷ codes "(station 0 1)" ++ 10 ∷ codes "(run 1 (gate 0 (getn (site 0) (gauge 0))))" ++ 10 ∷ []) ≡ done (record { vals = []; depth = 0; tys = []; tms = TermAsGate 0 1 ∷ TermAsGet Number (WorldAsSite 0) 2 ∷ TermAsGauge 0 ∷ []; stations = record { gauges = 1; gates = 0 } ∷ record { gauges = 0; gates = 1 } ∷ []; start = 1 })
 unfolding go
 program1 = refl
 
-program2 : read (codes "(station 1 0)" ++ 10 ∷ codes "(run 0 (letd (here (num 7)) (getn (w 0) (v 0))))" ++ 10 ∷ []) ≡ done (record { vals = []; depth = 0; tys = []; tms = Term-as-Letd 1 3 ∷ Term-as-Here 2 ∷ Term-as-Num 7 ∷ Term-as-Get Number (World-as-Bound 0) 4 ∷ Term-as-Value 0 ∷ []; stations = record { gauges = 1; gates = 0 } ∷ []; start = 0 })
+program2 : read (codes "(station 1 0)" ++ 10 ∷ codes "(run 0 (letd (here (num 7)) (getn (w 0) (v 0))))" ++ 10 ∷ []) ≡ done (record { vals = []; depth = 0; tys = []; tms = TermAsLetd 1 3 ∷ TermAsHere 2 ∷ TermAsNum 7 ∷ TermAsGet Number (WorldAsBound 0) 4 ∷ TermAsValue 0 ∷ []; stations = record { gauges = 1; gates = 0 } ∷ []; start = 0 })
 unfolding go
 program2 = refl
 
-program3 : read (codes "(station 1 0)" ++ 10 ∷ codes "(run 0 (lam (at (box num)) (letd (v 0) (getb (w 0) (v 0)))))" ++ 10 ∷ []) ≡ done (record { vals = []; depth = 0; tys = Ty-as-At 1 ∷ Ty-as-Boxed 2 ∷ Ty-as-Num ∷ []; tms = Term-as-Lam 0 1 ∷ Term-as-Letd 2 3 ∷ Term-as-Value 0 ∷ Term-as-Get Code (World-as-Bound 0) 4 ∷ Term-as-Value 0 ∷ []; stations = record { gauges = 1; gates = 0 } ∷ []; start = 0 })
+program3 : read (codes "(station 1 0)" ++ 10 ∷ codes "(run 0 (lam (at (box num)) (letd (v 0) (getb (w 0) (v 0)))))" ++ 10 ∷ []) ≡ done (record { vals = []; depth = 0; tys = TyAsAt 1 ∷ TyAsBoxed 2 ∷ TyAsNum ∷ []; tms = TermAsLam 0 1 ∷ TermAsLetd 2 3 ∷ TermAsValue 0 ∷ TermAsGet Code (WorldAsBound 0) 4 ∷ TermAsValue 0 ∷ []; stations = record { gauges = 1; gates = 0 } ∷ []; start = 0 })
 unfolding go
 program3 = refl
 
-program4 : read (codes "(station 1 0)" ++ 10 ∷ codes "(run 0 (letcc num (throw num 0 (num 5))))" ++ 10 ∷ []) ≡ done (record { vals = []; depth = 0; tys = Ty-as-Num ∷ Ty-as-Num ∷ []; tms = Term-as-Letcc 0 1 ∷ Term-as-Throw 1 0 2 ∷ Term-as-Num 5 ∷ []; stations = record { gauges = 1; gates = 0 } ∷ []; start = 0 })
+program4 : read (codes "(station 1 0)" ++ 10 ∷ codes "(run 0 (letcc num (throw num 0 (num 5))))" ++ 10 ∷ []) ≡ done (record { vals = []; depth = 0; tys = TyAsNum ∷ TyAsNum ∷ []; tms = TermAsLetcc 0 1 ∷ TermAsThrow 1 0 2 ∷ TermAsNum 5 ∷ []; stations = record { gauges = 1; gates = 0 } ∷ []; start = 0 })
 unfolding go
 program4 = refl
 
-program5 : read (codes "(station 1 0)" ++ 10 ∷ codes "(station 1 0)" ++ 10 ∷ codes "(run 0 (letcc num (getn (site 1) (throw num 0 (gauge 0)))))" ++ 10 ∷ []) ≡ done (record { vals = []; depth = 0; tys = Ty-as-Num ∷ Ty-as-Num ∷ []; tms = Term-as-Letcc 0 1 ∷ Term-as-Get Number (World-as-Site 1) 2 ∷ Term-as-Throw 1 0 3 ∷ Term-as-Gauge 0 ∷ []; stations = record { gauges = 1; gates = 0 } ∷ record { gauges = 1; gates = 0 } ∷ []; start = 0 })
+program5 : read (codes "(station 1 0)" ++ 10 ∷ codes "(station 1 0)" ++ 10 ∷ codes "(run 0 (letcc num (getn (site 1) (throw num 0 (gauge 0)))))" ++ 10 ∷ []) ≡ done (record { vals = []; depth = 0; tys = TyAsNum ∷ TyAsNum ∷ []; tms = TermAsLetcc 0 1 ∷ TermAsGet Number (WorldAsSite 1) 2 ∷ TermAsThrow 1 0 3 ∷ TermAsGauge 0 ∷ []; stations = record { gauges = 1; gates = 0 } ∷ record { gauges = 1; gates = 0 } ∷ []; start = 0 })
 unfolding go
 program5 = refl
 
-program6 : read (codes "(station 1 0)" ++ 10 ∷ codes "(run 0 (app (lam num (lam num (v 1))) (num 3)))" ++ 10 ∷ []) ≡ done (record { vals = []; depth = 0; tys = Ty-as-Num ∷ Ty-as-Num ∷ []; tms = Term-as-App 1 4 ∷ Term-as-Lam 0 2 ∷ Term-as-Lam 1 3 ∷ Term-as-Value 1 ∷ Term-as-Num 3 ∷ []; stations = record { gauges = 1; gates = 0 } ∷ []; start = 0 })
+program6 : read (codes "(station 1 0)" ++ 10 ∷ codes "(run 0 (app (lam num (lam num (v 1))) (num 3)))" ++ 10 ∷ []) ≡ done (record { vals = []; depth = 0; tys = TyAsNum ∷ TyAsNum ∷ []; tms = TermAsApp 1 4 ∷ TermAsLam 0 2 ∷ TermAsLam 1 3 ∷ TermAsValue 1 ∷ TermAsNum 3 ∷ []; stations = record { gauges = 1; gates = 0 } ∷ []; start = 0 })
 unfolding go
 program6 = refl
 
-program7 : read (codes "(station 1 0)" ++ 10 ∷ codes "(run 0 (go num (site 0) (num 1)))" ++ 10 ∷ []) ≡ done (record { vals = []; depth = 0; tys = Ty-as-Num ∷ []; tms = Term-as-Go 0 (World-as-Site 0) 1 ∷ Term-as-Num 1 ∷ []; stations = record { gauges = 1; gates = 0 } ∷ []; start = 0 })
+program7 : read (codes "(station 1 0)" ++ 10 ∷ codes "(run 0 (go num (site 0) (num 1)))" ++ 10 ∷ []) ≡ done (record { vals = []; depth = 0; tys = TyAsNum ∷ []; tms = TermAsGo 0 (WorldAsSite 0) 1 ∷ TermAsNum 1 ∷ []; stations = record { gauges = 1; gates = 0 } ∷ []; start = 0 })
 unfolding go
 program7 = refl

@@ -6,12 +6,12 @@ use Rattle.syntax.specs.declared.grammar.Form.TheVariants.{TNum, TNone, TFn, TBo
 use Rattle.syntax.specs.declared.grammar.Sort.{Sort}
 use Rattle.syntax.specs.declared.grammar.Sort.TheVariants.{Types, Worlds, Terms, First, Further}
 use Rattle.syntax.specs.declared.program.Ty.{Ty}
-use Rattle.syntax.specs.declared.program.Ty.TheVariants.{Num as Ty-as-Num, Never as Ty-as-Never, Fn as Ty-as-Fn, Boxed as Ty-as-Boxed, At as Ty-as-At, Both as Ty-as-Both}
+use Rattle.syntax.specs.declared.program.Ty.TheVariants.{Num as TyAsNum, Never as TyAsNever, Fn as TyAsFn, Boxed as TyAsBoxed, At as TyAsAt, Both as TyAsBoth}
 use Rattle.syntax.specs.declared.program.World.{World}
-use Rattle.syntax.specs.declared.program.World.TheVariants.{Site as World-as-Site, Bound as World-as-Bound}
+use Rattle.syntax.specs.declared.program.World.TheVariants.{Site as WorldAsSite, Bound as WorldAsBound}
 use Rattle.syntax.specs.declared.program.Term.{Term}
 use Rattle.syntax.specs.declared.program.Mobile.TheVariants.{Code, Address, Number}
-use Rattle.syntax.specs.declared.program.Term.TheVariants.{Num as Term-as-Num, Value as Term-as-Value, Lam as Term-as-Lam, App as Term-as-App, Boxed as Term-as-Boxed, Unbox as Term-as-Unbox, Here as Term-as-Here, Letd as Term-as-Letd, Get as Term-as-Get, Pair as Term-as-Pair, Fst as Term-as-Fst, Snd as Term-as-Snd, Letcc as Term-as-Letcc, Throw as Term-as-Throw, Go as Term-as-Go, Gauge as Term-as-Gauge, Gate as Term-as-Gate, Below as Term-as-Below}
+use Rattle.syntax.specs.declared.program.Term.TheVariants.{Num as TermAsNum, Value as TermAsValue, Lam as TermAsLam, App as TermAsApp, Boxed as TermAsBoxed, Unbox as TermAsUnbox, Here as TermAsHere, Letd as TermAsLetd, Get as TermAsGet, Pair as TermAsPair, Fst as TermAsFst, Snd as TermAsSnd, Letcc as TermAsLetcc, Throw as TermAsThrow, Go as TermAsGo, Gauge as TermAsGauge, Gate as TermAsGate, Below as TermAsBelow}
 
 -- What ends a part: the byte between parts, the byte that ends a form, or the byte that ends a line.
 pub data Stop : Type 0 where
@@ -56,7 +56,7 @@ abbrev pub nth : ℕ → List ℕ → ℕ
 nth k v = slice_index v k
 
 abbrev pub world_by : ℕ → ℕ → World
-world_by c n = cond (c == 0) (World-as-Site n) (World-as-Bound n)
+world_by c n = cond (c == 0) (WorldAsSite n) (WorldAsBound n)
 
 abbrev pub world_there : ℕ → List ℕ → World
 world_there k v = world_by (nth k v) (nth (k + 1) v)
@@ -85,34 +85,34 @@ heads w k ps n m = record { sort = Further; spelling = 40 ∷ codes w ++ 32 ∷ 
 
 -- The grammar: six types, two worlds, twenty terms and two lines.
 abbrev pub row : Form → Row
-row TNum = bare "nu" 109 Ty-as-Num
-row TNone = bare "non" 101 Ty-as-Never
-row TFn = bracket Types "fn" (sub type ∷ sub type ∷ []) (λ v. a_type (Ty-as-Fn (nth 1 v) (nth 0 v)))
-row TBox = bracket Types "box" (sub type ∷ []) (λ v. a_type (Ty-as-Boxed (nth 0 v)))
-row TAt = bracket Types "at" (sub type ∷ []) (λ v. a_type (Ty-as-At (nth 0 v)))
-row TBoth = bracket Types "both" (sub type ∷ sub type ∷ []) (λ v. a_type (Ty-as-Both (nth 1 v) (nth 0 v)))
+row TNum = bare "nu" 109 TyAsNum
+row TNone = bare "non" 101 TyAsNever
+row TFn = bracket Types "fn" (sub type ∷ sub type ∷ []) (λ v. a_type (TyAsFn (nth 1 v) (nth 0 v)))
+row TBox = bracket Types "box" (sub type ∷ []) (λ v. a_type (TyAsBoxed (nth 0 v)))
+row TAt = bracket Types "at" (sub type ∷ []) (λ v. a_type (TyAsAt (nth 0 v)))
+row TBoth = bracket Types "both" (sub type ∷ sub type ∷ []) (λ v. a_type (TyAsBoth (nth 1 v) (nth 0 v)))
 row Site = bracket Worlds "site" (num ∷ []) (λ v. a_world 0)
 row Bound = bracket Worlds "w" (num ∷ []) (λ v. a_world 1)
-row Num = bracket Terms "num" (num ∷ []) (λ v. a_term (Term-as-Num (nth 0 v)))
-row Val = bracket Terms "v" (num ∷ []) (λ v. a_term (Term-as-Value (nth 0 v)))
-row Lam = bracket Terms "lam" (sub type ∷ sub term ∷ []) (λ v. a_term (Term-as-Lam (nth 1 v) (nth 0 v)))
-row App = bracket Terms "app" (sub term ∷ sub term ∷ []) (λ v. a_term (Term-as-App (nth 1 v) (nth 0 v)))
-row Boxed = bracket Terms "box" (sub term ∷ []) (λ v. a_term (Term-as-Boxed (nth 0 v)))
-row Unbox = bracket Terms "unbox" (sub term ∷ []) (λ v. a_term (Term-as-Unbox (nth 0 v)))
-row Here = bracket Terms "here" (sub term ∷ []) (λ v. a_term (Term-as-Here (nth 0 v)))
-row Letd = bracket Terms "letd" (sub term ∷ sub term ∷ []) (λ v. a_term (Term-as-Letd (nth 1 v) (nth 0 v)))
-row Getb = bracket Terms "getb" (sub world ∷ sub term ∷ []) (λ v. a_term (Term-as-Get Code (world_there 1 v) (nth 0 v)))
-row Getd = bracket Terms "getd" (sub world ∷ sub term ∷ []) (λ v. a_term (Term-as-Get Address (world_there 1 v) (nth 0 v)))
-row Getn = bracket Terms "getn" (sub world ∷ sub term ∷ []) (λ v. a_term (Term-as-Get Number (world_there 1 v) (nth 0 v)))
-row Pair = bracket Terms "pair" (sub term ∷ sub term ∷ []) (λ v. a_term (Term-as-Pair (nth 1 v) (nth 0 v)))
-row Fst = bracket Terms "fst" (sub term ∷ []) (λ v. a_term (Term-as-Fst (nth 0 v)))
-row Snd = bracket Terms "snd" (sub term ∷ []) (λ v. a_term (Term-as-Snd (nth 0 v)))
-row Letcc = bracket Terms "letcc" (sub type ∷ sub term ∷ []) (λ v. a_term (Term-as-Letcc (nth 1 v) (nth 0 v)))
-row Throw = bracket Terms "throw" (sub type ∷ num ∷ sub term ∷ []) (λ v. a_term (Term-as-Throw (nth 2 v) (nth 1 v) (nth 0 v)))
-row Go = bracket Terms "go" (sub type ∷ sub world ∷ sub term ∷ []) (λ v. a_term (Term-as-Go (nth 3 v) (world_there 1 v) (nth 0 v)))
-row Gauge = bracket Terms "gauge" (num ∷ []) (λ v. a_term (Term-as-Gauge (nth 0 v)))
-row Gate = bracket Terms "gate" (num ∷ sub term ∷ []) (λ v. a_term (Term-as-Gate (nth 1 v) (nth 0 v)))
-row Below = bracket Terms "below" (sub type ∷ sub term ∷ sub term ∷ sub term ∷ sub term ∷ []) (λ v. a_term (Term-as-Below (nth 4 v) (nth 3 v) (nth 2 v) (nth 1 v) (nth 0 v)))
+row Num = bracket Terms "num" (num ∷ []) (λ v. a_term (TermAsNum (nth 0 v)))
+row Val = bracket Terms "v" (num ∷ []) (λ v. a_term (TermAsValue (nth 0 v)))
+row Lam = bracket Terms "lam" (sub type ∷ sub term ∷ []) (λ v. a_term (TermAsLam (nth 1 v) (nth 0 v)))
+row App = bracket Terms "app" (sub term ∷ sub term ∷ []) (λ v. a_term (TermAsApp (nth 1 v) (nth 0 v)))
+row Boxed = bracket Terms "box" (sub term ∷ []) (λ v. a_term (TermAsBoxed (nth 0 v)))
+row Unbox = bracket Terms "unbox" (sub term ∷ []) (λ v. a_term (TermAsUnbox (nth 0 v)))
+row Here = bracket Terms "here" (sub term ∷ []) (λ v. a_term (TermAsHere (nth 0 v)))
+row Letd = bracket Terms "letd" (sub term ∷ sub term ∷ []) (λ v. a_term (TermAsLetd (nth 1 v) (nth 0 v)))
+row Getb = bracket Terms "getb" (sub world ∷ sub term ∷ []) (λ v. a_term (TermAsGet Code (world_there 1 v) (nth 0 v)))
+row Getd = bracket Terms "getd" (sub world ∷ sub term ∷ []) (λ v. a_term (TermAsGet Address (world_there 1 v) (nth 0 v)))
+row Getn = bracket Terms "getn" (sub world ∷ sub term ∷ []) (λ v. a_term (TermAsGet Number (world_there 1 v) (nth 0 v)))
+row Pair = bracket Terms "pair" (sub term ∷ sub term ∷ []) (λ v. a_term (TermAsPair (nth 1 v) (nth 0 v)))
+row Fst = bracket Terms "fst" (sub term ∷ []) (λ v. a_term (TermAsFst (nth 0 v)))
+row Snd = bracket Terms "snd" (sub term ∷ []) (λ v. a_term (TermAsSnd (nth 0 v)))
+row Letcc = bracket Terms "letcc" (sub type ∷ sub term ∷ []) (λ v. a_term (TermAsLetcc (nth 1 v) (nth 0 v)))
+row Throw = bracket Terms "throw" (sub type ∷ num ∷ sub term ∷ []) (λ v. a_term (TermAsThrow (nth 2 v) (nth 1 v) (nth 0 v)))
+row Go = bracket Terms "go" (sub type ∷ sub world ∷ sub term ∷ []) (λ v. a_term (TermAsGo (nth 3 v) (world_there 1 v) (nth 0 v)))
+row Gauge = bracket Terms "gauge" (num ∷ []) (λ v. a_term (TermAsGauge (nth 0 v)))
+row Gate = bracket Terms "gate" (num ∷ sub term ∷ []) (λ v. a_term (TermAsGate (nth 1 v) (nth 0 v)))
+row Below = bracket Terms "below" (sub type ∷ sub term ∷ sub term ∷ sub term ∷ sub term ∷ []) (λ v. a_term (TermAsBelow (nth 4 v) (nth 3 v) (nth 2 v) (nth 1 v) (nth 0 v)))
 row Station = heads "station" true (num ∷ num ∷ []) (stop line ∷ item Further ∷ []) (λ v. a_station (nth 1 v) (nth 0 v))
 row Run = heads "run" false (num ∷ sub term ∷ []) (stop line ∷ []) (λ v. a_start (nth 1 v))
 

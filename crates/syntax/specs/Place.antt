@@ -1,11 +1,11 @@
 -- What a place for a text holds.
-use Rattle.std.specs.Prelude.{◌≡◌, ℕ, ◌+◌, ◌<◌, ◌≤◌, cond, List, [], ◌∷◌, ◌++◌, length, Some, None, Ok, Err, vec_items, Option, Result, ◌==◌}
+use Rattle.std.specs.Prelude.{◌≡◌, ℕ, ◌<◌, ◌≤◌, cond, List, [], ◌∷◌, ◌++◌, length, Some, None, Ok, Err, vec_items, Option, Result, ◌==◌}
 use Rattle.instruments.specs.declared.sheet.Station.{Station}
 use Rattle.instruments.specs.Sheets.{stations_of}
 use Rattle.syntax.specs.declared.program.Ty.{Ty}
-use Rattle.syntax.specs.declared.program.Ty.TheVariants.{Num as Ty-as-Num}
+use Rattle.syntax.specs.declared.program.Ty.TheVariants.{Num as TyAsNum}
 use Rattle.syntax.specs.declared.program.Term.{Term}
-use Rattle.syntax.specs.declared.program.Term.TheVariants.{Num as Term-as-Num}
+use Rattle.syntax.specs.declared.program.Term.TheVariants.{Num as TermAsNum}
 use Rattle.lines.specs.declared.refusal.Refusal.{Refusal}
 use Rattle.lines.specs.declared.refusal.Refusal.TheVariants.{Text as Text·fault}
 use Rattle.lines.specs.declared.refusal.TextFault.{TextFault}
@@ -49,12 +49,12 @@ with_start t n = record { types = t.types; terms = t.terms; stations = t.station
 -- a type takes the next number, if there is one
 abbrev pub BegunType : Tables → Option ℕ → Tables → Type 0
 BegunType t None u = (512 ≤ length t.types) × (u ≡ t)
-BegunType t (Some n) u = (length t.types < 512) × (n ≡ length t.types) × (u ≡ with_types t (t.types ++ Ty-as-Num ∷ []))
+BegunType t (Some n) u = (length t.types < 512) × (n ≡ length t.types) × (u ≡ with_types t (t.types ++ TyAsNum ∷ []))
 
 -- a term takes the next number, if there is one
 abbrev pub BegunTerm : Tables → Option ℕ → Tables → Type 0
 BegunTerm t None u = (1024 ≤ length t.terms) × (u ≡ t)
-BegunTerm t (Some n) u = (length t.terms < 1024) × (n ≡ length t.terms) × (u ≡ with_terms t (t.terms ++ Term-as-Num 0 ∷ []))
+BegunTerm t (Some n) u = (length t.terms < 1024) × (n ≡ length t.terms) × (u ≡ with_terms t (t.terms ++ TermAsNum 0 ∷ []))
 
 -- a place is empty, or full with a program
 pub data Place : Type 0 where

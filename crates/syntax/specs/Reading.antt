@@ -9,9 +9,9 @@ use Rattle.syntax.specs.declared.grammar.Form.{Form}
 use Rattle.syntax.specs.declared.grammar.Sort.{Sort}
 use Rattle.syntax.specs.declared.grammar.Sort.TheVariants.{Types, Worlds, Terms, First, Further}
 use Rattle.syntax.specs.declared.program.Ty.{Ty}
-use Rattle.syntax.specs.declared.program.Ty.TheVariants.{Num as Ty-as-Num}
+use Rattle.syntax.specs.declared.program.Ty.TheVariants.{Num as TyAsNum}
 use Rattle.syntax.specs.declared.program.Term.{Term}
-use Rattle.syntax.specs.declared.program.Term.TheVariants.{Num as Term-as-Num}
+use Rattle.syntax.specs.declared.program.Term.TheVariants.{Num as TermAsNum}
 use Rattle.instruments.specs.declared.sheet.Station.{Station as Counts}
 
 -- What was read so far; the values of the parts of open forms are on a stack.
@@ -37,9 +37,9 @@ at_depth d s = record { vals = s.vals; depth = d; tys = s.tys; tms = s.tms; stat
 
 -- A type or a term begins: it takes the next number, and the row of that number.
 abbrev pub begun : Sort → Seen → Seen
-begun Types s = record { vals = length s.tys ∷ s.vals; depth = s.depth; tys = s.tys ++ Ty-as-Num ∷ []; tms = s.tms; stations = s.stations; start = s.start }
+begun Types s = record { vals = length s.tys ∷ s.vals; depth = s.depth; tys = s.tys ++ TyAsNum ∷ []; tms = s.tms; stations = s.stations; start = s.start }
 begun Worlds s = s
-begun Terms s = record { vals = length s.tms ∷ s.vals; depth = s.depth; tys = s.tys; tms = s.tms ++ Term-as-Num 0 ∷ []; stations = s.stations; start = s.start }
+begun Terms s = record { vals = length s.tms ∷ s.vals; depth = s.depth; tys = s.tys; tms = s.tms ++ TermAsNum 0 ∷ []; stations = s.stations; start = s.start }
 begun First s = s
 begun Further s = s
 

@@ -1,5 +1,5 @@
 -- The text of a program's tables.
-use Rattle.std.specs.Prelude.{◌≡◌, ℕ, zero, suc, List, [], ◌∷◌, ◌++◌, length, Ok, Err, codes, decimal, Result, slice_index_or}
+use Rattle.std.specs.Prelude.{◌≡◌, ℕ, zero, suc, List, [], ◌∷◌, ◌++◌, Err, codes, decimal, Result, slice_index_or}
 use Rattle.lines.specs.declared.refusal.Refusal.{Refusal}
 use Rattle.lines.specs.declared.refusal.Refusal.TheVariants.{Nothing}
 use Rattle.lines.specs.Writing.{written, written_after}
@@ -11,7 +11,7 @@ use Rattle.syntax.specs.Place.{Tables, Place, tables_of}
 use Rattle.syntax.specs.Place.Place.{empty, full}
 use Rattle.syntax.specs.Views.{type_form, term_form}
 use Rattle.syntax.specs.declared.program.Ty.{Ty}
-use Rattle.syntax.specs.declared.program.Ty.TheVariants.{Num as Ty-as-Num, Never, Fn, Boxed as Ty-as-Boxed, At, Both}
+use Rattle.syntax.specs.declared.program.Ty.TheVariants.{Num as TyAsNum, Never, Fn, Boxed as TyAsBoxed, At, Both}
 use Rattle.syntax.specs.declared.program.World.{World}
 use Rattle.syntax.specs.declared.program.World.TheVariants.{Site, Bound}
 use Rattle.syntax.specs.declared.program.Term.{Term}
@@ -23,7 +23,7 @@ spaced a b = a ++ (codes " " ++ b)
 
 -- the type n; one past the table is a number's
 abbrev pub type_at : List Ty → ℕ → Ty
-type_at ts n = slice_index_or ts n Ty-as-Num
+type_at ts n = slice_index_or ts n TyAsNum
 
 -- the term n; one past the table is the number 0
 abbrev pub nth_term : List Term → ℕ → Term
@@ -31,10 +31,10 @@ nth_term ms n = slice_index_or ms n (Num 0)
 
 -- a type's parts, where y writes a type by its number
 abbrev pub type_inner : Ty → (ℕ → List ℕ) → List ℕ
-type_inner Ty-as-Num y = []
+type_inner TyAsNum y = []
 type_inner Never y = []
 type_inner (Fn a b) y = spaced (y a) (y b)
-type_inner (Ty-as-Boxed a) y = y a
+type_inner (TyAsBoxed a) y = y a
 type_inner (At a) y = y a
 type_inner (Both a b) y = spaced (y a) (y b)
 

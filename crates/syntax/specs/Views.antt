@@ -2,9 +2,9 @@
 use Rattle.std.specs.Prelude.{◌≡◌, ℕ, ◌+◌, ◌<◌, ◌≤◌, max, Bool, true, false, cond, ◌||◌, List, [], ◌∷◌, ◌++◌, length, drop, Ok, Err, Result, ◌==◌}
 use Rattle.lines.specs.declared.refusal.TextFault.{TextFault}
 use Rattle.lines.specs.declared.refusal.TextFault.TheVariants.{TooLong, Grammar, TooDeep, TooMany, Sheet}
-use Rattle.syntax.specs.Grammar.{Want, words, spelling, spelled_out}
-use Rattle.syntax.specs.Reading.{Seen, Outcome, go, after, many, opened}
-use Rattle.syntax.specs.Reading.Outcome.{done, refused}
+use Rattle.syntax.specs.Grammar.{Want, spelling, spelled_out}
+use Rattle.syntax.specs.Reading.{Seen, Outcome, go, many, opened}
+use Rattle.syntax.specs.Reading.Outcome.{refused}
 use Rattle.syntax.specs.Texts.{In}
 use Rattle.syntax.specs.declared.grammar.Form.{Form}
 use Rattle.syntax.specs.declared.grammar.Sort.{Sort}
@@ -14,11 +14,11 @@ use Rattle.syntax.specs.declared.program.World.TheVariants.{Site, Bound}
 use Rattle.syntax.specs.declared.program.Ty.{Ty}
 use Rattle.syntax.specs.declared.program.Ty.TheVariants.{Num, Never, Fn, Boxed, At, Both}
 use Rattle.syntax.specs.declared.grammar.Form.TheVariants.{TNum, TNone, TFn, TBox, TAt, TBoth}
-use Rattle.syntax.specs.declared.grammar.Form.TheVariants.{Station, Run, Val, Getb, Getd, Getn, Num as Form-as-Num, Lam as Form-as-Lam, App as Form-as-App, Boxed as Form-as-Boxed, Unbox as Form-as-Unbox, Here as Form-as-Here, Letd as Form-as-Letd, Pair as Form-as-Pair, Fst as Form-as-Fst, Snd as Form-as-Snd, Letcc as Form-as-Letcc, Throw as Form-as-Throw, Go as Form-as-Go, Gauge as Form-as-Gauge, Gate as Form-as-Gate, Below as Form-as-Below}
+use Rattle.syntax.specs.declared.grammar.Form.TheVariants.{Station, Run, Val, Getb, Getd, Getn, Num as FormAsNum, Lam as FormAsLam, App as FormAsApp, Boxed as FormAsBoxed, Unbox as FormAsUnbox, Here as FormAsHere, Letd as FormAsLetd, Pair as FormAsPair, Fst as FormAsFst, Snd as FormAsSnd, Letcc as FormAsLetcc, Throw as FormAsThrow, Go as FormAsGo, Gauge as FormAsGauge, Gate as FormAsGate, Below as FormAsBelow}
 use Rattle.syntax.specs.declared.program.Mobile.{Mobile}
 use Rattle.syntax.specs.declared.program.Mobile.TheVariants.{Code, Address, Number}
 use Rattle.syntax.specs.declared.program.Term.{Term}
-use Rattle.syntax.specs.declared.program.Term.TheVariants.{Value, Lam, App, Unbox, Here, Letd, Get, Pair, Fst, Snd, Letcc, Throw, Go, Gauge, Gate, Below, Num as Term-as-Num, Boxed as Term-as-Boxed}
+use Rattle.syntax.specs.declared.program.Term.TheVariants.{Value, Lam, App, Unbox, Here, Letd, Get, Pair, Fst, Snd, Letcc, Throw, Go, Gauge, Gate, Below, Num as TermAsNum, Boxed as TermAsBoxed}
 use Rattle.syntax.specs.declared.table.Program.{Program}
 use Rattle.syntax.specs.Place.{Tables, tables}
 use Rattle.syntax.specs.declared.reader.Reader.{Reader}
@@ -136,32 +136,32 @@ get_form Number = Getn
 
 -- the form that a term has
 abbrev pub term_form : Term → Form
-term_form (Term-as-Num n) = Form-as-Num
+term_form (TermAsNum n) = FormAsNum
 term_form (Value n) = Val
-term_form (Lam t b) = Form-as-Lam
-term_form (App f a) = Form-as-App
-term_form (Term-as-Boxed a) = Form-as-Boxed
-term_form (Unbox a) = Form-as-Unbox
-term_form (Here a) = Form-as-Here
-term_form (Letd a b) = Form-as-Letd
+term_form (Lam t b) = FormAsLam
+term_form (App f a) = FormAsApp
+term_form (TermAsBoxed a) = FormAsBoxed
+term_form (Unbox a) = FormAsUnbox
+term_form (Here a) = FormAsHere
+term_form (Letd a b) = FormAsLetd
 term_form (Get m w a) = get_form m
-term_form (Pair a b) = Form-as-Pair
-term_form (Fst a) = Form-as-Fst
-term_form (Snd a) = Form-as-Snd
-term_form (Letcc t b) = Form-as-Letcc
-term_form (Throw t c a) = Form-as-Throw
-term_form (Go t w a) = Form-as-Go
-term_form (Gauge n) = Form-as-Gauge
-term_form (Gate n a) = Form-as-Gate
-term_form (Below t a b l o) = Form-as-Below
+term_form (Pair a b) = FormAsPair
+term_form (Fst a) = FormAsFst
+term_form (Snd a) = FormAsSnd
+term_form (Letcc t b) = FormAsLetcc
+term_form (Throw t c a) = FormAsThrow
+term_form (Go t w a) = FormAsGo
+term_form (Gauge n) = FormAsGauge
+term_form (Gate n a) = FormAsGate
+term_form (Below t a b l o) = FormAsBelow
 
 -- the values of a term's parts, the last first
 abbrev pub parts_of_term : Term → List ℕ
-parts_of_term (Term-as-Num n) = n ∷ []
+parts_of_term (TermAsNum n) = n ∷ []
 parts_of_term (Value n) = n ∷ []
 parts_of_term (Lam t b) = b ∷ t ∷ []
 parts_of_term (App f a) = a ∷ f ∷ []
-parts_of_term (Term-as-Boxed a) = a ∷ []
+parts_of_term (TermAsBoxed a) = a ∷ []
 parts_of_term (Unbox a) = a ∷ []
 parts_of_term (Here a) = a ∷ []
 parts_of_term (Letd a b) = b ∷ a ∷ []
@@ -183,4 +183,4 @@ line_form false = Run
 
 -- the forms of terms with two parts or more, where a world is none
 abbrev pub longer : List Form
-longer = Form-as-Lam ∷ Form-as-App ∷ Form-as-Letd ∷ Form-as-Pair ∷ Form-as-Letcc ∷ Form-as-Throw ∷ Form-as-Go ∷ Form-as-Gate ∷ Form-as-Below ∷ []
+longer = FormAsLam ∷ FormAsApp ∷ FormAsLetd ∷ FormAsPair ∷ FormAsLetcc ∷ FormAsThrow ∷ FormAsGo ∷ FormAsGate ∷ FormAsBelow ∷ []

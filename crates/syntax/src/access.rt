@@ -2,7 +2,7 @@
 ghost use Rattle.std.specs.Prelude.{◌≡◌, MatchOption};
 ghost use Rattle.instruments.specs.Sheets.{stations_of};
 ghost use Rattle.syntax.specs.Place.{tables, place as place_of};
-ghost use Rattle.syntax.specs.Place.Place.{empty, full as a-full};
+ghost use Rattle.syntax.specs.Place.Place.{empty, full as a_full};
 ghost use Rattle.syntax.specs.Spelt.{type_at, nth_term};
 
 use crate::program::{Term, Ty};
@@ -66,7 +66,7 @@ impl Program {
 impl Text {
     // The program, if a text was read.
     pub fn program(&self) -> Option<&Program>
-        ensures { MatchOption result (place_of self.now ≡ empty) (λ p. place_of self.now ≡ a-full (tables p.now)) }
+        ensures { MatchOption result (place_of self.now ≡ empty) (λ p. place_of self.now ≡ a_full (tables p.now)) }
     {
         if self.full { Some(&self.program) } else { None }
     }

@@ -2,7 +2,7 @@
 ghost use Rattle.std.specs.Prelude.{◌≡◌, ℕ, ◌<◌, false, List, ◌∷◌, ◌++◌, IfOk};
 ghost use Rattle.syntax.specs.Grammar.{Want, words, wants, last as last_byte, spelling, spelled_out};
 ghost use Rattle.syntax.specs.Grammar.Stop.{close, space};
-ghost use Rattle.syntax.specs.Grammar.Want.{stop as want-stop, number as want-number, item as want-item};
+ghost use Rattle.syntax.specs.Grammar.Want.{stop as want_stop, number as want_number, item as want_item};
 ghost use Rattle.syntax.specs.Texts.{In};
 ghost use Rattle.syntax.specs.Views.{Led, at, inside, type_form, parts_of_type, term_form, parts_of_term, get_form, kind_of, count_of, longer};
 ghost use Rattle.syntax.specs.declared.grammar.Form.TheVariants.{Throw, Go, Below};
@@ -17,7 +17,7 @@ use lines::refusal::TextFault;
 impl Reader<'_> {
     // A type begins: its number, and its form.
     fn begin_type(&mut self, draft: &mut Program, depth: usize) -> Result<(u16, Form), TextFault>
-        ensures led { (k : List Want) (vs : List ℕ) → Led result (at self.old draft.old (want-item Types ∷ k) vs depth) (λ x. inside self.new draft.new x.1 (wants x.1 k) (x.0 ∷ vs) depth) }
+        ensures led { (k : List Want) (vs : List ℕ) → Led result (at self.old draft.old (want_item Types ∷ k) vs depth) (λ x. inside self.new draft.new x.1 (wants x.1 k) (x.0 ∷ vs) depth) }
         ensures picked { IfOk result (λ x. In (spelling x.1) x.1 (words Types) × (last_byte x.1 ≡ 41 → depth < 64)) }
     {
         let place = self.place;
@@ -32,7 +32,7 @@ impl Reader<'_> {
     // Two types with a space between.
     #[cycle(two_types_ty_type_parts)]
     fn two_types(&mut self, draft: &mut Program, depth: usize) -> Result<(u16, u16), TextFault>
-        ensures { (k : List Want) (vs : List ℕ) → Led result (at self.old draft.old (want-item Types ∷ want-stop space ∷ want-item Types ∷ k) vs depth) (λ x. at self.new draft.new k (x.1 ∷ x.0 ∷ vs) depth) }
+        ensures { (k : List Want) (vs : List ℕ) → Led result (at self.old draft.old (want_item Types ∷ want_stop space ∷ want_item Types ∷ k) vs depth) (λ x. at self.new draft.new k (x.1 ∷ x.0 ∷ vs) depth) }
     {
         let left = self.ty(draft, depth)?;
         self.stop(b' ')?;
@@ -45,7 +45,7 @@ impl Reader<'_> {
     fn type_parts(&mut self, draft: &mut Program, form: Form, depth: usize) -> Result<Ty, TextFault>
         requires form { In (spelling form) form (words Types) }
         requires room { last_byte form ≡ 41 → depth < 64 }
-        ensures led { (k : List Want) (vs : List ℕ) → Led result (inside self.old draft.old form (wants form k) vs depth) (λ t. inside self.new draft.new form (want-stop (close form) ∷ k) (parts_of_type t ++ vs) depth) }
+        ensures led { (k : List Want) (vs : List ℕ) → Led result (inside self.old draft.old form (wants form k) vs depth) (λ t. inside self.new draft.new form (want_stop (close form) ∷ k) (parts_of_type t ++ vs) depth) }
         ensures formed { IfOk result (λ t. type_form t ≡ form) }
     {
         match form {
@@ -68,7 +68,7 @@ impl Reader<'_> {
     // A type.
     #[cycle(two_types_ty_type_parts)]
     fn ty(&mut self, draft: &mut Program, depth: usize) -> Result<u16, TextFault>
-        ensures { (k : List Want) (vs : List ℕ) → Led result (at self.old draft.old (want-item Types ∷ k) vs depth) (λ n. at self.new draft.new k (n ∷ vs) depth) }
+        ensures { (k : List Want) (vs : List ℕ) → Led result (at self.old draft.old (want_item Types ∷ k) vs depth) (λ n. at self.new draft.new k (n ∷ vs) depth) }
     {
         let (number, form) = self.begin_type(draft, depth)?;
         let node = self.type_parts(draft, form, depth)?;
@@ -79,7 +79,7 @@ impl Reader<'_> {
 
     // A term begins: its number, and its form.
     fn begin_term(&mut self, draft: &mut Program, depth: usize) -> Result<(u16, Form), TextFault>
-        ensures led { (k : List Want) (vs : List ℕ) → Led result (at self.old draft.old (want-item Terms ∷ k) vs depth) (λ x. inside self.new draft.new x.1 (wants x.1 k) (x.0 ∷ vs) depth) }
+        ensures led { (k : List Want) (vs : List ℕ) → Led result (at self.old draft.old (want_item Terms ∷ k) vs depth) (λ x. inside self.new draft.new x.1 (wants x.1 k) (x.0 ∷ vs) depth) }
         ensures picked { IfOk result (λ x. In (spelling x.1) x.1 (words Terms) × (last_byte x.1 ≡ 41 → depth < 64)) }
     {
         let place = self.place;
@@ -94,7 +94,7 @@ impl Reader<'_> {
     // Two terms with a space between.
     #[cycle(below_get_go_more_parts_number_and_term_term_term_parts_throw_two_terms_type_and_term_world_and_term)]
     fn two_terms(&mut self, draft: &mut Program, depth: usize) -> Result<(u16, u16), TextFault>
-        ensures { (k : List Want) (vs : List ℕ) → Led result (at self.old draft.old (want-item Terms ∷ want-stop space ∷ want-item Terms ∷ k) vs depth) (λ x. at self.new draft.new k (x.1 ∷ x.0 ∷ vs) depth) }
+        ensures { (k : List Want) (vs : List ℕ) → Led result (at self.old draft.old (want_item Terms ∷ want_stop space ∷ want_item Terms ∷ k) vs depth) (λ x. at self.new draft.new k (x.1 ∷ x.0 ∷ vs) depth) }
     {
         let left = self.term(draft, depth)?;
         self.stop(b' ')?;
@@ -105,7 +105,7 @@ impl Reader<'_> {
     // A type, a space and a term.
     #[cycle(below_get_go_more_parts_number_and_term_term_term_parts_throw_two_terms_type_and_term_world_and_term)]
     fn type_and_term(&mut self, draft: &mut Program, depth: usize) -> Result<(u16, u16), TextFault>
-        ensures { (k : List Want) (vs : List ℕ) → Led result (at self.old draft.old (want-item Types ∷ want-stop space ∷ want-item Terms ∷ k) vs depth) (λ x. at self.new draft.new k (x.1 ∷ x.0 ∷ vs) depth) }
+        ensures { (k : List Want) (vs : List ℕ) → Led result (at self.old draft.old (want_item Types ∷ want_stop space ∷ want_item Terms ∷ k) vs depth) (λ x. at self.new draft.new k (x.1 ∷ x.0 ∷ vs) depth) }
     {
         let written = self.ty(draft, depth)?;
         self.stop(b' ')?;
@@ -120,7 +120,7 @@ impl Reader<'_> {
         draft: &mut Program,
         depth: usize,
     ) -> Result<(World, u16), TextFault>
-        ensures { (k : List Want) (vs : List ℕ) → Led result (at self.old draft.old (want-item Worlds ∷ want-stop space ∷ want-item Terms ∷ k) vs depth) (λ x. at self.new draft.new k (x.1 ∷ kind_of x.0 ∷ count_of x.0 ∷ vs) depth) }
+        ensures { (k : List Want) (vs : List ℕ) → Led result (at self.old draft.old (want_item Worlds ∷ want_stop space ∷ want_item Terms ∷ k) vs depth) (λ x. at self.new draft.new k (x.1 ∷ kind_of x.0 ∷ count_of x.0 ∷ vs) depth) }
     {
         let world = self.world(depth)?;
         self.stop(b' ')?;
@@ -135,7 +135,7 @@ impl Reader<'_> {
         draft: &mut Program,
         depth: usize,
     ) -> Result<(u16, u16), TextFault>
-        ensures { (k : List Want) (vs : List ℕ) → Led result (at self.old draft.old (want-number false space ∷ want-item Terms ∷ k) vs depth) (λ x. at self.new draft.new k (x.1 ∷ x.0 ∷ vs) depth) }
+        ensures { (k : List Want) (vs : List ℕ) → Led result (at self.old draft.old (want_number false space ∷ want_item Terms ∷ k) vs depth) (λ x. at self.new draft.new k (x.1 ∷ x.0 ∷ vs) depth) }
     {
         let number = self.number(false)?;
         self.stop(b' ')?;
@@ -146,7 +146,7 @@ impl Reader<'_> {
     // The parts of a get.
     #[cycle(below_get_go_more_parts_number_and_term_term_term_parts_throw_two_terms_type_and_term_world_and_term)]
     fn get(&mut self, draft: &mut Program, mobile: Mobile, depth: usize) -> Result<Term, TextFault>
-        ensures led { (k : List Want) (vs : List ℕ) → Led result (at self.old draft.old (want-item Worlds ∷ want-stop space ∷ want-item Terms ∷ k) vs depth) (λ t. at self.new draft.new k (parts_of_term t ++ vs) depth) }
+        ensures led { (k : List Want) (vs : List ℕ) → Led result (at self.old draft.old (want_item Worlds ∷ want_stop space ∷ want_item Terms ∷ k) vs depth) (λ t. at self.new draft.new k (parts_of_term t ++ vs) depth) }
         ensures formed { IfOk result (λ t. term_form t ≡ get_form mobile) }
     {
         let (world, part) = self.world_and_term(draft, depth)?;
@@ -160,7 +160,7 @@ impl Reader<'_> {
     // The parts of a throw.
     #[cycle(below_get_go_more_parts_number_and_term_term_term_parts_throw_two_terms_type_and_term_world_and_term)]
     fn throw(&mut self, draft: &mut Program, depth: usize) -> Result<Term, TextFault>
-        ensures led { (k : List Want) (vs : List ℕ) → Led result (at self.old draft.old (want-item Types ∷ want-stop space ∷ want-number false space ∷ want-item Terms ∷ k) vs depth) (λ t. at self.new draft.new k (parts_of_term t ++ vs) depth) }
+        ensures led { (k : List Want) (vs : List ℕ) → Led result (at self.old draft.old (want_item Types ∷ want_stop space ∷ want_number false space ∷ want_item Terms ∷ k) vs depth) (λ t. at self.new draft.new k (parts_of_term t ++ vs) depth) }
         ensures formed { IfOk result (λ t. term_form t ≡ Throw) }
     {
         let written = self.ty(draft, depth)?;
@@ -176,7 +176,7 @@ impl Reader<'_> {
     // The parts of a go.
     #[cycle(below_get_go_more_parts_number_and_term_term_term_parts_throw_two_terms_type_and_term_world_and_term)]
     fn go(&mut self, draft: &mut Program, depth: usize) -> Result<Term, TextFault>
-        ensures led { (k : List Want) (vs : List ℕ) → Led result (at self.old draft.old (want-item Types ∷ want-stop space ∷ want-item Worlds ∷ want-stop space ∷ want-item Terms ∷ k) vs depth) (λ t. at self.new draft.new k (parts_of_term t ++ vs) depth) }
+        ensures led { (k : List Want) (vs : List ℕ) → Led result (at self.old draft.old (want_item Types ∷ want_stop space ∷ want_item Worlds ∷ want_stop space ∷ want_item Terms ∷ k) vs depth) (λ t. at self.new draft.new k (parts_of_term t ++ vs) depth) }
         ensures formed { IfOk result (λ t. term_form t ≡ Go) }
     {
         let written = self.ty(draft, depth)?;
@@ -192,7 +192,7 @@ impl Reader<'_> {
     // The parts of a comparison.
     #[cycle(below_get_go_more_parts_number_and_term_term_term_parts_throw_two_terms_type_and_term_world_and_term)]
     fn below(&mut self, draft: &mut Program, depth: usize) -> Result<Term, TextFault>
-        ensures led { (k : List Want) (vs : List ℕ) → Led result (at self.old draft.old (want-item Types ∷ want-stop space ∷ want-item Terms ∷ want-stop space ∷ want-item Terms ∷ want-stop space ∷ want-item Terms ∷ want-stop space ∷ want-item Terms ∷ k) vs depth) (λ t. at self.new draft.new k (parts_of_term t ++ vs) depth) }
+        ensures led { (k : List Want) (vs : List ℕ) → Led result (at self.old draft.old (want_item Types ∷ want_stop space ∷ want_item Terms ∷ want_stop space ∷ want_item Terms ∷ want_stop space ∷ want_item Terms ∷ want_stop space ∷ want_item Terms ∷ k) vs depth) (λ t. at self.new draft.new k (parts_of_term t ++ vs) depth) }
         ensures formed { IfOk result (λ t. term_form t ≡ Below) }
     {
         let written = self.ty(draft, depth)?;
@@ -219,7 +219,7 @@ impl Reader<'_> {
     ) -> Result<Term, TextFault>
         requires form { In (spelling form) form (spelled_out longer) }
         requires room { last_byte form ≡ 41 → depth < 64 }
-        ensures led { (k : List Want) (vs : List ℕ) → Led result (inside self.old draft.old form (wants form k) vs depth) (λ t. inside self.new draft.new form (want-stop (close form) ∷ k) (parts_of_term t ++ vs) depth) }
+        ensures led { (k : List Want) (vs : List ℕ) → Led result (inside self.old draft.old form (wants form k) vs depth) (λ t. inside self.new draft.new form (want_stop (close form) ∷ k) (parts_of_term t ++ vs) depth) }
         ensures formed { IfOk result (λ t. term_form t ≡ form) }
     {
         match form {
@@ -264,7 +264,7 @@ impl Reader<'_> {
     ) -> Result<Term, TextFault>
         requires form { In (spelling form) form (words Terms) }
         requires room { last_byte form ≡ 41 → depth < 64 }
-        ensures led { (k : List Want) (vs : List ℕ) → Led result (inside self.old draft.old form (wants form k) vs depth) (λ t. inside self.new draft.new form (want-stop (close form) ∷ k) (parts_of_term t ++ vs) depth) }
+        ensures led { (k : List Want) (vs : List ℕ) → Led result (inside self.old draft.old form (wants form k) vs depth) (λ t. inside self.new draft.new form (want_stop (close form) ∷ k) (parts_of_term t ++ vs) depth) }
         ensures formed { IfOk result (λ t. term_form t ≡ form) }
     {
         match form {
@@ -286,7 +286,7 @@ impl Reader<'_> {
     // A term.
     #[cycle(below_get_go_more_parts_number_and_term_term_term_parts_throw_two_terms_type_and_term_world_and_term)]
     fn term(&mut self, draft: &mut Program, depth: usize) -> Result<u16, TextFault>
-        ensures { (k : List Want) (vs : List ℕ) → Led result (at self.old draft.old (want-item Terms ∷ k) vs depth) (λ n. at self.new draft.new k (n ∷ vs) depth) }
+        ensures { (k : List Want) (vs : List ℕ) → Led result (at self.old draft.old (want_item Terms ∷ k) vs depth) (λ n. at self.new draft.new k (n ∷ vs) depth) }
     {
         let (number, form) = self.begin_term(draft, depth)?;
         let node = self.term_parts(draft, form, depth)?;

@@ -1,4 +1,6 @@
 // Program texts: their grammar, their tables, reading and writing.
+#![tactic(auto)]
+
 pub mod access;
 mod draft;
 pub mod grammar;

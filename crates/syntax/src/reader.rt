@@ -1,7 +1,7 @@
 // A place in a text, and what is read there: bytes, numbers, words and worlds.
 ghost use Rattle.std.specs.Prelude.{◌≡◌, ℕ, ◌+◌, ◌<◌, ◌≤◌, true, false, List, [], ◌∷◌, ◌++◌, length, IfOk, if◌then◌else◌, OnOk, slice_index};
 ghost use Rattle.syntax.specs.Grammar.{Want, Stop, byte, words, wants, last as last_byte, spelling, spelled_out};
-ghost use Rattle.syntax.specs.Grammar.Want.{stop as want-stop, number as want-number, item as want-item, word as want-word};
+ghost use Rattle.syntax.specs.Grammar.Want.{stop as want_stop, number as want_number, item as want_item, word as want_word};
 ghost use Rattle.syntax.specs.Reading.{Seen, passed, push, digit, opened, full, begun};
 ghost use Rattle.syntax.specs.Reading.Outcome.{done, refused};
 ghost use Rattle.syntax.specs.Texts.{Apart, In};
@@ -40,7 +40,7 @@ impl Reader<'_> {
 
     // Takes the byte b.
     pub(crate) fn stop(&mut self, b: u8) -> Result<(), TextFault>
-        ensures { (a : Stop) (k : List Want) (s : Seen) → byte a ≡ b → Led result (from self.old (want-stop a ∷ k) s) (λ _. from self.new k (passed a s)) }
+        ensures { (a : Stop) (k : List Want) (s : Seen) → byte a ≡ b → Led result (from self.old (want_stop a ∷ k) s) (λ _. from self.new k (passed a s)) }
     {
         let c = self.peek()?;
         if c != b {
@@ -53,7 +53,7 @@ impl Reader<'_> {
     // A number with no leading zero, at most 65,535; a count of registers is at most 32.
     pub(crate) fn number(&mut self, counts: bool) -> Result<u16, TextFault>
         ensures few { IfOk result (λ v. counts ≡ true → v ≤ 32) }
-        ensures led { (a : Stop) (k : List Want) (s : Seen) → digit (byte a) ≡ false → Led result (from self.old (want-number counts a ∷ k) s) (λ v. from self.new (want-stop a ∷ k) (push v s)) }
+        ensures led { (a : Stop) (k : List Want) (s : Seen) → digit (byte a) ≡ false → Led result (from self.old (want_number counts a ∷ k) s) (λ v. from self.new (want_stop a ∷ k) (push v s)) }
     {
         let start = self.place;
         let c = self.peek()?;
@@ -83,7 +83,7 @@ impl Reader<'_> {
 
     // An item of the sort begins here, a bracket inside fewer than 64 others.
     pub(crate) fn first(&mut self, sort: Sort, depth: usize) -> Result<(), TextFault>
-        ensures led { (k : List Want) (s : Seen) → s.depth ≡ depth → Led result (from self.old (want-item sort ∷ k) s) (λ _. (if full sort s then refused 13 self.old.place else from self.new (want-word sort (words sort) ∷ k) (begun sort s))) }
+        ensures led { (k : List Want) (s : Seen) → s.depth ≡ depth → Led result (from self.old (want_item sort ∷ k) s) (λ _. (if full sort s then refused 13 self.old.place else from self.new (want_word sort (words sort) ∷ k) (begun sort s))) }
         ensures room { OnOk result (slice_index (rest self.new) 0 ≡ 40 → depth < 64) }
     {
         let c = self.peek()?;
@@ -98,7 +98,7 @@ impl Reader<'_> {
 
     // The word of one of the forms.
     fn pick(&mut self, forms: &[Form]) -> Result<Form, TextFault>
-        ensures led { (o : Sort) (k : List Want) (s : Seen) → Apart (spelled_out forms.now) → Clear o s (spelled_out forms.now) → Led result (from self.old (want-word o (spelled_out forms.now) ∷ k) s) (λ f. from self.new (wants f k) (opened f s)) }
+        ensures led { (o : Sort) (k : List Want) (s : Seen) → Apart (spelled_out forms.now) → Clear o s (spelled_out forms.now) → Led result (from self.old (want_word o (spelled_out forms.now) ∷ k) s) (λ f. from self.new (wants f k) (opened f s)) }
         ensures picked { IfOk result (λ f. In (spelling f) f (spelled_out forms.now) × (last_byte f ≡ 41 → slice_index (rest self.old) 0 ≡ 40)) }
     {
         self.peek()?;
@@ -113,7 +113,7 @@ impl Reader<'_> {
 
     // The word of a form of the sort.
     pub(crate) fn word(&mut self, sort: Sort) -> Result<Form, TextFault>
-        ensures led { (k : List Want) (s : Seen) → Clear sort s (words sort) → Led result (from self.old (want-word sort (words sort) ∷ k) s) (λ f. from self.new (wants f k) (opened f s)) }
+        ensures led { (k : List Want) (s : Seen) → Clear sort s (words sort) → Led result (from self.old (want_word sort (words sort) ∷ k) s) (λ f. from self.new (wants f k) (opened f s)) }
         ensures picked { IfOk result (λ f. In (spelling f) f (words sort) × (last_byte f ≡ 41 → slice_index (rest self.old) 0 ≡ 40)) }
     {
         self.pick(sort.forms())
@@ -121,7 +121,7 @@ impl Reader<'_> {
 
     // The word of the run line, on a full sheet: a station line is one too many.
     pub(crate) fn last_line(&mut self) -> Result<(), TextFault>
-        ensures { (k : List Want) (s : Seen) → 16 ≤ length s.stations → Led result (from self.old (want-word Further (words Further) ∷ k) s) (λ _. from self.new (wants Run k) (opened Run s)) }
+        ensures { (k : List Want) (s : Seen) → 16 ≤ length s.stations → Led result (from self.old (want_word Further (words Further) ∷ k) s) (λ _. from self.new (wants Run k) (opened Run s)) }
     {
         self.peek()?;
         if agree(b"(s", &self.text[self.place..]) == 2 {
@@ -143,7 +143,7 @@ impl Reader<'_> {
 
     // A world.
     pub(crate) fn world(&mut self, depth: usize) -> Result<World, TextFault>
-        ensures { (k : List Want) (s : Seen) → s.depth ≡ depth → Led result (from self.old (want-item Worlds ∷ k) s) (λ w. from self.new k (push (kind_of w) (push (count_of w) s))) }
+        ensures { (k : List Want) (s : Seen) → s.depth ≡ depth → Led result (from self.old (want_item Worlds ∷ k) s) (λ w. from self.new k (push (kind_of w) (push (count_of w) s))) }
     {
         self.first(Sort::Worlds, depth)?;
         let form = self.word(Sort::Worlds)?;

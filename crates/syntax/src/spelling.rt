@@ -1,6 +1,6 @@
 // How each form is spelled.
 ghost use Rattle.std.specs.Prelude.{◌≡◌};
-ghost use Rattle.syntax.specs.Grammar.{last, spelling, forms as sort-forms};
+ghost use Rattle.syntax.specs.Grammar.{last, spelling, forms as sort_forms};
 ghost use Rattle.syntax.specs.Views.{begins_item};
 
 use crate::grammar::{Form, Sort};
@@ -17,7 +17,7 @@ impl Sort {
     }
 
     pub(crate) fn forms(self) -> &'static [Form]
-        ensures { result.now ≡ sort-forms self }
+        ensures { result.now ≡ sort_forms self }
     {
         match self {
             Sort::Types => &[

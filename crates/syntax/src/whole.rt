@@ -1,7 +1,7 @@
 // Reads the lines of a text.
 ghost use Rattle.std.specs.Prelude.{◌≡◌, ℕ, ◌+◌, ◌<◌, true, false, List, [], ◌∷◌, length, IfOk, OnOk, nat_le};
 ghost use Rattle.syntax.specs.Grammar.{Want, wants};
-ghost use Rattle.syntax.specs.Grammar.Want.{item as want-item};
+ghost use Rattle.syntax.specs.Grammar.Want.{item as want_item};
 ghost use Rattle.syntax.specs.Reading.{Seen, go as go_on, start_none, opened};
 ghost use Rattle.syntax.specs.Reading.Outcome.{done};
 ghost use Rattle.syntax.specs.Views.{Led, from, at, inside, seen, line_form};
@@ -17,7 +17,7 @@ use lines::refusal::TextFault;
 impl Reader<'_> {
     // The first line is a station's.
     fn first_line(&mut self) -> Result<(), TextFault>
-        ensures { (k : List Want) (s : Seen) → s.depth ≡ 0 → Led result (from self.old (want-item First ∷ k) s) (λ _. from self.new (wants Station k) (opened Station s)) }
+        ensures { (k : List Want) (s : Seen) → s.depth ≡ 0 → Led result (from self.old (want_item First ∷ k) s) (λ _. from self.new (wants Station k) (opened Station s)) }
     {
         self.first(Sort::First, 0)?;
         self.word(Sort::First)?;
@@ -26,7 +26,7 @@ impl Reader<'_> {
 
     // A further line begins: a station's, or else the run line. On a full sheet a station's is one too many.
     fn further_line(&mut self, full: bool) -> Result<bool, TextFault>
-        ensures led { (k : List Want) (s : Seen) → s.depth ≡ 0 → nat_le 16 (length s.stations) ≡ full → Led result (from self.old (want-item Further ∷ k) s) (λ b. from self.new (wants (line_form b) k) (opened (line_form b) s)) }
+        ensures led { (k : List Want) (s : Seen) → s.depth ≡ 0 → nat_le 16 (length s.stations) ≡ full → Led result (from self.old (want_item Further ∷ k) s) (λ b. from self.new (wants (line_form b) k) (opened (line_form b) s)) }
         ensures room { IfOk result (λ b. b ≡ true → full ≡ false) }
     {
         self.first(Sort::Further, 0)?;
@@ -44,7 +44,7 @@ impl Reader<'_> {
     // The counts of a station, up to the end of its line.
     fn station(&mut self, draft: &mut Program) -> Result<(), TextFault>
         requires { length (tables draft.old).stations < 16 }
-        ensures led { (k : List Want) (vs : List ℕ) → Led result (inside self.old draft.old Station (wants Station k) vs 0) (λ _. at self.new draft.new (want-item Further ∷ k) vs 0) }
+        ensures led { (k : List Want) (vs : List ℕ) → Led result (inside self.old draft.old Station (wants Station k) vs 0) (λ _. at self.new draft.new (want_item Further ∷ k) vs 0) }
         ensures more { OnOk result (length (tables draft.new).stations ≡ length (tables draft.old).stations + 1) }
     {
         let gauges = self.number(true)?;
@@ -70,7 +70,7 @@ impl Reader<'_> {
     // A whole text: a station line, further lines of which the last is the run line, and no more.
     fn text(&mut self, draft: &mut Program) -> Result<(), TextFault>
         requires { length (tables draft.old).stations < 16 }
-        ensures { Led result (at self.old draft.old (want-item First ∷ []) [] 0) (λ _. done (seen (tables draft.new) [] 0)) }
+        ensures { Led result (at self.old draft.old (want_item First ∷ []) [] 0) (λ _. done (seen (tables draft.new) [] 0)) }
     {
         self.first_line()?;
         self.station(draft)?;
@@ -84,7 +84,7 @@ impl Reader<'_> {
 
 // Reads a text into tables, whatever they held.
 pub(crate) fn read_into(text: &[u8], draft: &mut Program) -> Result<(), TextFault>
-    ensures { Led result (go_on text.now (want-item First ∷ []) start_none 0) (λ _. done (seen (tables draft.new) [] 0)) }
+    ensures { Led result (go_on text.now (want_item First ∷ []) start_none 0) (λ _. done (seen (tables draft.new) [] 0)) }
 {
     draft.clear();
     let mut reader = Reader { text, place: 0 };

@@ -16,14 +16,14 @@ returns-in-Never t c = rw (text_at c.args.written c.args.types.now c.requires.la
 
 pub returns-in-err-word : goal.returns-in-err-word
 returns-in-err-word t c = rw (text_at c.args.written c.args.types.now c.requires.laid c.args.number (Row.Fn c.in-Fn.from c.in-Fn.to) c.requires.known c.in-Fn.is)
-    (stops (codes "(fn ") ((type_text (meaning c.args.written c.args.types.now c.in-Fn.from)) ++ ((codes " ") ++ ((type_text (meaning c.args.written c.args.types.now c.in-Fn.to)) ++ (codes ")")))) c.from-residual.ensures.0 c.in-err-word.ensures.writes.ended)
+    (stops (codes "(fn ") ((type_text (meaning c.args.written c.args.types.now c.in-Fn.from)) ++ ((codes " ") ++ ((type_text (meaning c.args.written c.args.types.now c.in-Fn.to)) ++ (codes ")")))) c.from_residual.ensures.0 c.in-err-word.ensures.writes.ended)
 
 pub returns-in-err-put-type : goal.returns-in-err-put-type
 returns-in-err-put-type t c = rw (text_at c.args.written c.args.types.now c.requires.laid c.args.number (Row.Fn c.in-Fn.from c.in-Fn.to) c.requires.known c.in-Fn.is)
     (then c.in-ok-word.ensures.writes.ended (stops (type_text (meaning c.args.written c.args.types.now c.in-Fn.from)) ((codes " ") ++ ((type_text (meaning c.args.written c.args.types.now c.in-Fn.to)) ++ (codes ")"))) c.from-residual-in-err-put-type.ensures.0 c.in-err-put-type.ensures.ended))
 
-pub put-type-requires : goal.put-type-requires
-put-type-requires t c =
+pub put_type-requires : goal.put_type-requires
+put_type-requires t c =
     let b : Below (length c.args.types.now) (Row.Fn c.in-Fn.from c.in-Fn.to) = parts_in c.args.written c.args.types.now c.requires.laid c.args.number (Row.Fn c.in-Fn.from c.in-Fn.to) c.requires.known c.in-Fn.is in
     let l : Lower c.args.written (height c.args.written c.args.number) (Row.Fn c.in-Fn.from c.in-Fn.to) = parts_lower c.args.written c.args.types.now c.requires.laid c.args.number (Row.Fn c.in-Fn.from c.in-Fn.to) c.requires.known c.in-Fn.is in
     (subst (λ (x : ℕ). height c.args.written c.in-Fn.from < x) c.decreases l.0, (c.requires.laid, b.0))
@@ -36,8 +36,8 @@ pub returns-in-err-put-type-2 : goal.returns-in-err-put-type-2
 returns-in-err-put-type-2 t c = rw (text_at c.args.written c.args.types.now c.requires.laid c.args.number (Row.Fn c.in-Fn.from c.in-Fn.to) c.requires.known c.in-Fn.is)
     (then c.in-ok-word.ensures.writes.ended (then c.in-ok-put-type.ensures.ended (then c.in-ok-word-2.ensures.writes.ended (stops (type_text (meaning c.args.written c.args.types.now c.in-Fn.to)) (codes ")") c.from-residual-in-err-put-type-2.ensures.0 c.in-err-put-type-2.ensures.ended))))
 
-pub put-type-requires-in-Fn : goal.put-type-requires-in-Fn
-put-type-requires-in-Fn t c =
+pub put_type-requires-in-Fn : goal.put_type-requires-in-Fn
+put_type-requires-in-Fn t c =
     let b : Below (length c.args.types.now) (Row.Fn c.in-Fn.from c.in-Fn.to) = parts_in c.args.written c.args.types.now c.requires.laid c.args.number (Row.Fn c.in-Fn.from c.in-Fn.to) c.requires.known c.in-Fn.is in
     let l : Lower c.args.written (height c.args.written c.args.number) (Row.Fn c.in-Fn.from c.in-Fn.to) = parts_lower c.args.written c.args.types.now c.requires.laid c.args.number (Row.Fn c.in-Fn.from c.in-Fn.to) c.requires.known c.in-Fn.is in
     (subst (λ (x : ℕ). height c.args.written c.in-Fn.to < x) c.decreases l.1, (c.requires.laid, b.1))
@@ -54,8 +54,8 @@ pub returns-in-err-put-type-3 : goal.returns-in-err-put-type-3
 returns-in-err-put-type-3 t c = rw (text_at c.args.written c.args.types.now c.requires.laid c.args.number (Row.Boxed c.in-Boxed.part) c.requires.known c.in-Boxed.is)
     (then c.in-ok-word-3.ensures.writes.ended (stops (type_text (meaning c.args.written c.args.types.now c.in-Boxed.part)) (codes ")") c.from-residual-in-err-put-type-3.ensures.0 c.in-err-put-type-3.ensures.ended))
 
-pub put-type-requires-in-Boxed : goal.put-type-requires-in-Boxed
-put-type-requires-in-Boxed t c =
+pub put_type-requires-in-Boxed : goal.put_type-requires-in-Boxed
+put_type-requires-in-Boxed t c =
     let b : Below (length c.args.types.now) (Row.Boxed c.in-Boxed.part) = parts_in c.args.written c.args.types.now c.requires.laid c.args.number (Row.Boxed c.in-Boxed.part) c.requires.known c.in-Boxed.is in
     let l : Lower c.args.written (height c.args.written c.args.number) (Row.Boxed c.in-Boxed.part) = parts_lower c.args.written c.args.types.now c.requires.laid c.args.number (Row.Boxed c.in-Boxed.part) c.requires.known c.in-Boxed.is in
     (subst (λ (x : ℕ). height c.args.written c.in-Boxed.part < x) c.decreases (l), (c.requires.laid, b))
@@ -72,8 +72,8 @@ pub returns-in-err-put-type-4 : goal.returns-in-err-put-type-4
 returns-in-err-put-type-4 t c = rw (text_at c.args.written c.args.types.now c.requires.laid c.args.number (Row.At c.in-At.part) c.requires.known c.in-At.is)
     (then c.in-ok-word-4.ensures.writes.ended (stops (type_text (meaning c.args.written c.args.types.now c.in-At.part)) (codes ")") c.from-residual-in-err-put-type-4.ensures.0 c.in-err-put-type-4.ensures.ended))
 
-pub put-type-requires-in-At : goal.put-type-requires-in-At
-put-type-requires-in-At t c =
+pub put_type-requires-in-At : goal.put_type-requires-in-At
+put_type-requires-in-At t c =
     let b : Below (length c.args.types.now) (Row.At c.in-At.part) = parts_in c.args.written c.args.types.now c.requires.laid c.args.number (Row.At c.in-At.part) c.requires.known c.in-At.is in
     let l : Lower c.args.written (height c.args.written c.args.number) (Row.At c.in-At.part) = parts_lower c.args.written c.args.types.now c.requires.laid c.args.number (Row.At c.in-At.part) c.requires.known c.in-At.is in
     (subst (λ (x : ℕ). height c.args.written c.in-At.part < x) c.decreases (l), (c.requires.laid, b))
@@ -90,8 +90,8 @@ pub returns-in-err-put-type-5 : goal.returns-in-err-put-type-5
 returns-in-err-put-type-5 t c = rw (text_at c.args.written c.args.types.now c.requires.laid c.args.number (Row.Both c.in-Both.left c.in-Both.right) c.requires.known c.in-Both.is)
     (then c.in-ok-word-5.ensures.writes.ended (stops (type_text (meaning c.args.written c.args.types.now c.in-Both.left)) ((codes " ") ++ ((type_text (meaning c.args.written c.args.types.now c.in-Both.right)) ++ (codes ")"))) c.from-residual-in-err-put-type-5.ensures.0 c.in-err-put-type-5.ensures.ended))
 
-pub put-type-requires-in-Both : goal.put-type-requires-in-Both
-put-type-requires-in-Both t c =
+pub put_type-requires-in-Both : goal.put_type-requires-in-Both
+put_type-requires-in-Both t c =
     let b : Below (length c.args.types.now) (Row.Both c.in-Both.left c.in-Both.right) = parts_in c.args.written c.args.types.now c.requires.laid c.args.number (Row.Both c.in-Both.left c.in-Both.right) c.requires.known c.in-Both.is in
     let l : Lower c.args.written (height c.args.written c.args.number) (Row.Both c.in-Both.left c.in-Both.right) = parts_lower c.args.written c.args.types.now c.requires.laid c.args.number (Row.Both c.in-Both.left c.in-Both.right) c.requires.known c.in-Both.is in
     (subst (λ (x : ℕ). height c.args.written c.in-Both.left < x) c.decreases l.0, (c.requires.laid, b.0))
@@ -104,8 +104,8 @@ pub returns-in-err-put-type-6 : goal.returns-in-err-put-type-6
 returns-in-err-put-type-6 t c = rw (text_at c.args.written c.args.types.now c.requires.laid c.args.number (Row.Both c.in-Both.left c.in-Both.right) c.requires.known c.in-Both.is)
     (then c.in-ok-word-5.ensures.writes.ended (then c.in-ok-put-type-5.ensures.ended (then c.in-ok-word-6.ensures.writes.ended (stops (type_text (meaning c.args.written c.args.types.now c.in-Both.right)) (codes ")") c.from-residual-in-err-put-type-6.ensures.0 c.in-err-put-type-6.ensures.ended))))
 
-pub put-type-requires-in-Both-2 : goal.put-type-requires-in-Both-2
-put-type-requires-in-Both-2 t c =
+pub put_type-requires-in-Both-2 : goal.put_type-requires-in-Both-2
+put_type-requires-in-Both-2 t c =
     let b : Below (length c.args.types.now) (Row.Both c.in-Both.left c.in-Both.right) = parts_in c.args.written c.args.types.now c.requires.laid c.args.number (Row.Both c.in-Both.left c.in-Both.right) c.requires.known c.in-Both.is in
     let l : Lower c.args.written (height c.args.written c.args.number) (Row.Both c.in-Both.left c.in-Both.right) = parts_lower c.args.written c.args.types.now c.requires.laid c.args.number (Row.Both c.in-Both.left c.in-Both.right) c.requires.known c.in-Both.is in
     (subst (λ (x : ℕ). height c.args.written c.in-Both.right < x) c.decreases l.1, (c.requires.laid, b.1))

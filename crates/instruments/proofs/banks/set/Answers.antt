@@ -1,7 +1,7 @@
 use Rattle.std.proofs.Common.{rules}
 use Rattle.std.proofs.lemmas.List.{length-map, length-take-le}
 use Rattle.instruments.specs.Benches.{fitted}
-use Rattle.instruments.specs.Rows.{site_row_within, site_row_past, rows_written, row_unfitted, set_after_past}
+use Rattle.instruments.specs.Rows.{site_row_within, site_row_past, rows_written, set_after_past}
 use Rattle.instruments.proofs.banks.set.Goals as goal
 
 pub returns-then-site-count : goal.returns-then-site-count

@@ -1,5 +1,5 @@
 use Rattle.std.proofs.Common.{rules}
-use Rattle.std.proofs.lemmas.List.{length-take-le, length-map}
+use Rattle.std.proofs.lemmas.List.{length-take-le}
 use Rattle.instruments.specs.Rows.{site_row_within, site_row_past}
 use Rattle.instruments.proofs.banks.width.Goals as goal
 

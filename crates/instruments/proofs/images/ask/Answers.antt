@@ -1,6 +1,5 @@
 use Rattle.std.proofs.Common.{rules}
 use Rattle.instruments.specs.Indexed.{counted_fitted, counted_unfitted}
-use Rattle.instruments.specs.Layout.{register}
 use Rattle.instruments.proofs.images.ask.Goals as goal
 
 pub returns-then-number-bytes : goal.returns-then-number-bytes

@@ -10,14 +10,14 @@ use Rattle.instruments.proofs.survey.put_site.Goals as goal
 pub loop-number-init : goal.loop-number-init
 loop-number-init g c = begins c.args.pen.now c.args.out.now c.requires
 
-pub returns-in-err-put-gauge : goal.returns-in-err-put-gauge
-returns-in-err-put-gauge g c =
+pub returns-in_err-put_gauge : goal.returns-in_err-put_gauge
+returns-in_err-put_gauge g c =
     let row = site_row (g.G.Gauges.readings c.args.gauges.now) c.args.site in
     let n = c.loop-number.number in
     let h : n < length row = omega arith in
     let e : c.ok-shows.result ≡ get_or row n None = c.ok-shows.ensures.value ∙ ap result_ok c.gauge.ensures ∙ okPart_asked row c.args.site n h in
     rw (gauge_cut c.args.site n row h)
-    (then c.loop-number.invariant (stops (gauge_line c.args.site n (get_or row n None)) (site_text c.args.site (n + 1) (drop (n + 1) row)) c.from-residual.ensures.0 (rw e at c.in-err-put-gauge.ensures.ended)))
+    (then c.loop-number.invariant (stops (gauge_line c.args.site n (get_or row n None)) (site_text c.args.site (n + 1) (drop (n + 1) row)) c.from_residual.ensures.0 (rw e at c.in_err-put_gauge.ensures.ended)))
 
 pub loop-number-preserved : goal.loop-number-preserved
 loop-number-preserved g c =
@@ -25,7 +25,7 @@ loop-number-preserved g c =
     let n = c.loop-number.number in
     let h : n < length row = omega arith in
     let e : c.ok-shows.result ≡ get_or row n None = c.ok-shows.ensures.value ∙ ap result_ok c.gauge.ensures ∙ okPart_asked row c.args.site n h in
-    rw (gauge_more c.args.site n row h) (took_then c.loop-number.invariant (rw e at c.in-ok-put-gauge.ensures.ended))
+    rw (gauge_more c.args.site n row h) (took_then c.loop-number.invariant (rw e at c.in_ok-put_gauge.ensures.ended))
 
 pub returns : goal.returns
 returns g c =

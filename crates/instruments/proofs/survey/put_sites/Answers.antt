@@ -9,22 +9,22 @@ use Rattle.instruments.proofs.survey.put_sites.Goals as goal
 pub loop-site-init : goal.loop-site-init
 loop-site-init g c = begins c.args.pen.now c.args.out.now c.requires
 
-pub put-site-requires : goal.put-site-requires
-put-site-requires g c = omega (arith, c.loop-site.invariant.room, c.loop-site.invariant.place, c.loop-site.invariant.limit)
+pub put_site-requires : goal.put_site-requires
+put_site-requires g c = omega (arith, c.loop-site.invariant.room, c.loop-site.invariant.place, c.loop-site.invariant.limit)
 
-pub returns-in-err-put-site : goal.returns-in-err-put-site
-returns-in-err-put-site g c =
+pub returns-in_err-put_site : goal.returns-in_err-put_site
+returns-in_err-put_site g c =
     let rows = g.G.Gauges.readings c.args.gauges.now in
     let s = c.loop-site.site in
     let h : s < length rows = omega arith in
     rw (site_cut s rows h)
-    (then c.loop-site.invariant (stops (site_text s 0 (site_row rows s)) (sites_text (s + 1) (drop (s + 1) rows)) c.from-residual.ensures.0 c.in-err-put-site.ensures.ended))
+    (then c.loop-site.invariant (stops (site_text s 0 (site_row rows s)) (sites_text (s + 1) (drop (s + 1) rows)) c.from_residual.ensures.0 c.in_err-put_site.ensures.ended))
 
 pub loop-site-preserved : goal.loop-site-preserved
 loop-site-preserved g c =
     let rows = g.G.Gauges.readings c.args.gauges.now in
     let h : c.loop-site.site < length rows = omega arith in
-    rw (site_more c.loop-site.site rows h) (took_then c.loop-site.invariant c.in-ok-put-site.ensures.ended)
+    rw (site_more c.loop-site.site rows h) (took_then c.loop-site.invariant c.in_ok-put_site.ensures.ended)
 
 pub returns : goal.returns
 returns g c =

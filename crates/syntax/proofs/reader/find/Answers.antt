@@ -1,4 +1,4 @@
-use Rattle.std.proofs.Common.{◌≡◌, max, arith}
+use Rattle.std.proofs.Common.{arith}
 use Rattle.syntax.proofs.Finds.{found_at, misses_more, misses_all}
 use Rattle.syntax.proofs.reader.find.Goals as goal
 use Rattle.syntax.proofs.reader.find.Goals.{then-n-far, else-n-far}

@@ -1,4 +1,4 @@
-use Rattle.std.proofs.Common.{◌≡◌, ◌+◌, ◌≤◌, length, take}
+use Rattle.std.proofs.Common.{◌≡◌, ◌≤◌, length, take}
 use Rattle.syntax.specs.Grammar.{spelled_out}
 use Rattle.syntax.specs.Views.{Misses, farthest}
 use Rattle.syntax.proofs.reader.find.Given as goal

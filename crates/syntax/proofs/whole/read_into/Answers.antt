@@ -1,4 +1,4 @@
-use Rattle.std.proofs.Common.{◌≡◌, List, [], ◌∷◌, sym, refl, ap, ◌∙◌, subst}
+use Rattle.std.proofs.Common.{[], ◌∷◌, subst}
 use Rattle.syntax.specs.Grammar.Want.{item}
 use Rattle.syntax.specs.Reading.{go}
 use Rattle.syntax.specs.Reading.Outcome.{done}

@@ -17,21 +17,21 @@ laid_by b w rows items n h e q =
     let t = tests b w rows n h e in
     (subst (Laid w) (sym q) (laid_says w rows n t), subst (λ (xs : List TypeRow). n < length xs) (sym q) (laid_number w rows n t))
 
-pub put-line-requires : goal.put-line-requires
-put-line-requires c =
-    let l = laid_by c.args.self.now.full c.args.self.now.written (vec_items c.args.self.now.types) c.as-slice.result.now c.args.self.now.ty c.if-not-self.false c.args.self.now.laid c.as-slice.ensures.value in
+pub put_line-requires : goal.put_line-requires
+put_line-requires c =
+    let l = laid_by c.args.self.now.full c.args.self.now.written (vec_items c.args.self.now.types) c.as_slice.result.now c.args.self.now.ty c.if-not-self.false c.args.self.now.laid c.as_slice.ensures.value in
     record { laid = l.0; known = l.1 }
 
-pub put-line-requires-2 : goal.put-line-requires-2
-put-line-requires-2 c =
-    let l = laid_by c.args.self.now.full c.args.self.now.written (vec_items c.args.self.now.types) c.as-slice-2.result.now c.args.self.now.ty c.if-not-self.false c.args.self.now.laid c.as-slice-2.ensures.value in
+pub put_line-requires-2 : goal.put_line-requires-2
+put_line-requires-2 c =
+    let l = laid_by c.args.self.now.full c.args.self.now.written (vec_items c.args.self.now.types) c.as_slice-2.result.now c.args.self.now.ty c.if-not-self.false c.args.self.now.laid c.as_slice-2.ensures.value in
     record { laid = l.0; known = l.1 }
 
 pub returns : goal.returns
 returns c =
-    let t = c.in-ok-put-line-2.ensures.ended in
+    let t = c.in_ok-put_line-2.ensures.ended in
     record {
-      value = rw (c.if-not-self.false, ← c.as-slice-2.ensures.value) (fills (type_line (meaning c.args.self.now.written c.as-slice-2.result.now c.args.self.now.ty)) c.args.out.now c.new-pen.result c.new-pen.ensures.at c.new-pen.ensures.limit t);
-      after = rw c.if-not-self.false (fills_after (type_line (meaning c.args.self.now.written c.as-slice-2.result.now c.args.self.now.ty)) c.args.out.now c.new-pen.result c.new-pen.ensures.at c.new-pen.ensures.limit t
-          ∙ ap (λ (xs : List TypeRow). written_after (type_line (meaning c.args.self.now.written xs c.args.self.now.ty)) c.args.out.now) c.as-slice-2.ensures.value);
+      value = rw (c.if-not-self.false, ← c.as_slice-2.ensures.value) (fills (type_line (meaning c.args.self.now.written c.as_slice-2.result.now c.args.self.now.ty)) c.args.out.now c.new-pen.result c.new-pen.ensures.at c.new-pen.ensures.limit t);
+      after = rw c.if-not-self.false (fills_after (type_line (meaning c.args.self.now.written c.as_slice-2.result.now c.args.self.now.ty)) c.args.out.now c.new-pen.result c.new-pen.ensures.at c.new-pen.ensures.limit t
+          ∙ ap (λ (xs : List TypeRow). written_after (type_line (meaning c.args.self.now.written xs c.args.self.now.ty)) c.args.out.now) c.as_slice-2.ensures.value);
     }

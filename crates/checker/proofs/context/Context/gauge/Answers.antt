@@ -24,7 +24,7 @@ returns c =
       judged = record {
         answer = record {
           number = built_number A.ready tt tt h;
-          verdict = registered_goes (gauges_there (stations_of c.args.sheet.now)) (world_of c.args.world) c.args.number c.args.term c.in-ok-gauge-at.field-0 (typed num) (sym c.gauge-at.ensures ∙ c.in-ok-gauge-at.was) ∙ ap typed (sym (built_is A.ready tt tt h));
+          verdict = registered_goes (gauges_there (stations_of c.args.sheet.now)) (world_of c.args.world) c.args.number c.args.term c.in_ok-gauge_at.field-0 (typed num) (sym c.gauge_at.ensures ∙ c.in_ok-gauge_at.was) ∙ ap typed (sym (built_is A.ready tt tt h));
           grown = grown_more (omega (arith, sz)) (built_grown A.ready tt tt h);
         };
       };

@@ -11,11 +11,11 @@ use Rattle.checker.proofs.Verdicts.{needs_met, needs_unmet}
 use Rattle.checker.proofs.Arms.{row_size, same_self, grown_none, grown_more, looked, not_looked, looked_below, place_same, place_other}
 use Rattle.checker.proofs.context.Context.value.Goals as goal
 
-pub returns-in-default : goal.returns-in-default
-returns-in-default c =
+pub returns-in_default : goal.returns-in_default
+returns-in_default c =
     let s = c.args.self.now in
     record {
-      judged = record { answer = ap (λ (x : Lookup (Ty × World)). bound_value c.args.term (world_of c.args.world) x) (not_looked (bound_of (meaning_of s)) (values_of s) c.args.count (sym c.value-at.ensures ∙ c.in-default.is)) };
+      judged = record { answer = ap (λ (x : Lookup (Ty × World)). bound_value c.args.term (world_of c.args.world) x) (not_looked (bound_of (meaning_of s)) (values_of s) c.args.count (sym c.value_at.ensures ∙ c.in_default.is)) };
       same = same_self s;
     }
 
@@ -25,7 +25,7 @@ returns-then-same c =
     let A = c.requires.asks in
     let sz : size c.args.terms.now c.args.term ≡ 1 = row_size A (Row.Value c.args.count) c.requires.row in
     let b = c.in-Some.found in
-    let e = sym c.value-at.ensures ∙ c.in-Some.is in
+    let e = sym c.value_at.ensures ∙ c.in-Some.is in
     let p = place_same b.world c.args.world (sym c.same.ensures ∙ c.if-same.true) in
     record {
       judged = record {
@@ -43,7 +43,7 @@ pub returns-else-same : goal.returns-else-same
 returns-else-same c =
     let s = c.args.self.now in
     let b = c.in-Some.found in
-    let e = sym c.value-at.ensures ∙ c.in-Some.is in
+    let e = sym c.value_at.ensures ∙ c.in-Some.is in
     record {
       judged = record {
         answer =

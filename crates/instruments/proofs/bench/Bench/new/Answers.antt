@@ -1,4 +1,4 @@
-use Rattle.std.proofs.Common.{◌≡◌, ◌<◌, length, sym, ◌∙◌, arith, length-set}
+use Rattle.std.proofs.Common.{◌<◌, length, ◌∙◌, arith, length-set}
 use Rattle.instruments.specs.Benches.{fitted, silent_gauges, silent_gates}
 use Rattle.instruments.specs.declared.sheet.Station.{Station}
 use Rattle.instruments.specs.Rows.{filled_more}

@@ -1,24 +1,21 @@
-use Rattle.std.proofs.Common.{◌≡◌, ◌<◌, ◌≤◌, true, cond, ◌&&◌, ltb, leb, List, [], ◌∷◌, ◌++◌, length, get_or, take, set, sym, refl, ap, ◌∙◌, ⊎_elim, arith, length-set, rules, lt-ltb, le-leb}
+use Rattle.std.proofs.Common.{◌≡◌, true, cond, ltb, leb, [], ◌∷◌, ◌++◌, length, take, set, sym, ap, ◌∙◌, ⊎_elim, arith, length-set, lt-ltb, le-leb}
 use Rattle.std.proofs.lemmas.List.{length-take-le, take_more_set, get_or-set_same, get_or-set_other}
 use Rattle.std.proofs.lemmas.Bool.{cases_eq}
-use Rattle.instruments.specs.declared.sheet.Station.{Station}
-use Rattle.instruments.specs.Sheets.{added, added_after, stations_of}
+use Rattle.instruments.specs.Sheets.{added}
 use Rattle.instruments.proofs.sheet.Sheet.add.Goals as goal
 
-pub invariant-of-self : goal.invariant-of-self
-invariant-of-self c =
+pub invariant_of-self : goal.invariant_of-self
+invariant_of-self c =
     let s = c.args.self.now in
     let x = c.args.station in
-    let l : length (set s.stations s.count x) ≡ length s.stations = length-set s.stations s.count x in (
-      (omega arith, l ∙ s.few.1),
-      (
-        λ k d h. ⊎_elim
-            (λ (e : k ≡ s.count). rw (e, get_or-set_same s.stations s.count x d (omega arith)) (omega arith, omega arith))
-            (λ (e : k ≡ s.count → ⊥). rw (get_or-set_other s.stations s.count k x d e) (s.fitted k d (omega arith)))
-            (cases_eq k s.count),
-        tt,
-      ),
-    )
+    let l : length (set s.stations s.count x) ≡ length s.stations = length-set s.stations s.count x in
+    record {
+      few = (omega arith, l ∙ s.few.1);
+      fitted = λ k d h. ⊎_elim
+          (λ (e : k ≡ s.count). rw (e, get_or-set_same s.stations s.count x d (omega arith)) (omega arith, omega arith))
+          (λ (e : k ≡ s.count → ⊥). rw (get_or-set_other s.stations s.count k x d e) (s.fitted k d (omega arith)))
+          (cases_eq k s.count);
+    }
 
 pub returns : goal.returns
 returns c =

@@ -1,7 +1,7 @@
 use Rattle.std.proofs.Common.{◌≡◌, ◌<◌, ◌≤◌, length, vec_items, vec_capacity, sym, refl, ap, ◌∙◌, subst, arith, rules}
 use mathlib.Core.Option.{some}
 use Rattle.instruments.specs.Sheets.{stations_of}
-use Rattle.checker.specs.Accepting.{place as program-place}
+use Rattle.checker.specs.Accepting.{place as program_place}
 use Rattle.machine.specs.Answers.{of_terms}
 use Rattle.machine.specs.Safe.{Holds}
 use Rattle.machine.specs.Calls.{place as place_of}
@@ -14,7 +14,7 @@ restart-requires c =
     let m = c.args.self.now in
     let t = c.in-Some.tables in
     let S = stations_of c.in-ok-sheet.sheet in
-    let w = start_within t.types.now t.terms.now S t.start (program-place c.args.program.now) c.in-Some.ensures.is c.in-Some.ensures.carries c.in-ok-sheet.ensures in
+    let w = start_within t.types.now t.terms.now S t.start (program_place c.args.program.now) c.in-Some.ensures.is c.in-Some.ensures.carries c.in-ok-sheet.ensures in
     record { state = kept_state m.full (vec_items m.terms) (stations_of m.sheet) m.state m.ok; few = c.len.ensures.bound; within = subst (λ n. t.start < n) (sym c.len.ensures.value) w }
 
 pub invariant-of-self : goal.invariant-of-self
@@ -23,7 +23,7 @@ invariant-of-self c =
     let t = c.in-Some.tables in
     let S = stations_of c.in-ok-sheet.sheet in
     let P = copied t.types.now t.terms.now S t.start in
-    let h = started_copy t.types.now t.terms.now S t.start (program-place c.args.program.now) c.restart.new.self c.in-Some.ensures.is c.in-Some.ensures.carries c.in-ok-sheet.ensures c.restart.ensures.state (c.restart.ensures.stations ∙ c.len.ensures.value) (c.restart.ensures.means P (sym c.len.ensures.value) refl) in
+    let h = started_copy t.types.now t.terms.now S t.start (program_place c.args.program.now) c.restart.new.self c.in-Some.ensures.is c.in-Some.ensures.carries c.in-ok-sheet.ensures c.restart.ensures.state (c.restart.ensures.stations ∙ c.len.ensures.value) (c.restart.ensures.means P (sym c.len.ensures.value) refl) in
     (search rules, (search rules, (refl, (∣ subst (λ ts. Holds (of_terms ts) S c.restart.new.self) (sym c.copy-rows-2.ensures.items) h ∣₁, tt))))
 
 pub returns : goal.returns
@@ -32,7 +32,7 @@ returns c =
     let t = c.in-Some.tables in
     let S = stations_of c.in-ok-sheet.sheet in
     let P = copied t.types.now t.terms.now S t.start in
-    let k = start_tells t.types.now t.terms.now S t.start (program-place c.args.program.now) c.in-Some.ensures.is c.in-Some.ensures.carries c.in-ok-sheet.ensures (place_of m) in
+    let k = start_tells t.types.now t.terms.now S t.start (program_place c.args.program.now) c.in-Some.ensures.is c.in-Some.ensures.carries c.in-ok-sheet.ensures (place_of m) in
     let means = c.restart.ensures.means P (sym c.len.ensures.value) refl in
     record {
       value = k.0;

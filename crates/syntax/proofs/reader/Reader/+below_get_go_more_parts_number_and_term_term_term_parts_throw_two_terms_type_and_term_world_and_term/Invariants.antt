@@ -10,26 +10,26 @@ decreases-get l = 5 * (64 - l.depth) + 4
 abbrev pub decreases-go : goal.decreases-go
 decreases-go l = 5 * (64 - l.depth) + 4
 
-abbrev pub decreases-number-and-term : goal.decreases-number-and-term
-decreases-number-and-term l = 5 * (64 - l.depth) + 3
+abbrev pub decreases-number_and_term : goal.decreases-number_and_term
+decreases-number_and_term l = 5 * (64 - l.depth) + 3
 
 abbrev pub decreases-term : goal.decreases-term
 decreases-term l = 5 * (64 - l.depth) + 2
 
-abbrev pub decreases-term-parts : goal.decreases-term-parts
-decreases-term-parts l = 5 * (64 - l.depth) + 1
+abbrev pub decreases-term_parts : goal.decreases-term_parts
+decreases-term_parts l = 5 * (64 - l.depth) + 1
 
 abbrev pub decreases-throw : goal.decreases-throw
 decreases-throw l = 5 * (64 - l.depth) + 4
 
-abbrev pub decreases-two-terms : goal.decreases-two-terms
-decreases-two-terms l = 5 * (64 - l.depth) + 3
+abbrev pub decreases-two_terms : goal.decreases-two_terms
+decreases-two_terms l = 5 * (64 - l.depth) + 3
 
-abbrev pub decreases-type-and-term : goal.decreases-type-and-term
-decreases-type-and-term l = 5 * (64 - l.depth) + 3
+abbrev pub decreases-type_and_term : goal.decreases-type_and_term
+decreases-type_and_term l = 5 * (64 - l.depth) + 3
 
-abbrev pub decreases-world-and-term : goal.decreases-world-and-term
-decreases-world-and-term l = 5 * (64 - l.depth) + 3
+abbrev pub decreases-world_and_term : goal.decreases-world_and_term
+decreases-world_and_term l = 5 * (64 - l.depth) + 3
 
-abbrev pub decreases-more-parts : goal.decreases-more-parts
-decreases-more-parts l = 5 * (64 - l.depth)
+abbrev pub decreases-more_parts : goal.decreases-more_parts
+decreases-more_parts l = 5 * (64 - l.depth)

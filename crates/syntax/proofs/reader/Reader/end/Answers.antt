@@ -1,4 +1,4 @@
-use Rattle.std.proofs.Common.{refl, arith}
+use Rattle.std.proofs.Common.{arith}
 use Rattle.std.proofs.lemmas.List.{drop_more, drop_all}
 use Rattle.syntax.proofs.Steps.{go_some, go_none}
 use Rattle.syntax.proofs.reader.Reader.end.Goals as goal

@@ -1,4 +1,4 @@
-use Rattle.std.proofs.Common.{◌≡◌, ℕ, ◌<◌, ◌⊎◌, List, get_or, sym, refl, ap, ◌∙◌, inl, inr, arith}
+use Rattle.std.proofs.Common.{◌≡◌, ℕ, ◌<◌, ◌⊎◌, List, get_or, sym, ap, ◌∙◌, inl, inr, arith}
 use Rattle.std.proofs.lemmas.Result.{IfOk-from_err}
 use Rattle.syntax.proofs.Steps.{go_none}
 use Rattle.syntax.proofs.Exits.{exit, told_grammar}
@@ -9,26 +9,26 @@ room_of : {c d : ℕ} → ((c ≡ 40) × (d < 64)) ⊎ (c ≡ 40 → ⊥) → c 
 room_of (inl p) q = p.1
 room_of (inr p) q = absurd (p q)
 
-pub returns-in-err-c : goal.returns-in-err-c
-returns-in-err-c c = record {
-  led = λ k s d. exit _ _ c.from-residual.ensures.1 _ _ (told_grammar _ _ _ c.in-err-c.ensures.1 (go_none _ _ s _ c.in-err-c.ensures.0));
-  room = IfOk-from_err _ _ c.from-residual.ensures.0;
+pub returns-in_err-c : goal.returns-in_err-c
+returns-in_err-c c = record {
+  led = λ k s d. exit _ _ c.from_residual.ensures.1 _ _ (told_grammar _ _ _ c.in_err-c.ensures.1 (go_none _ _ s _ c.in_err-c.ensures.0));
+  room = IfOk-from_err _ _ c.from_residual.ensures.0;
 }
 
 pub returns-then-not-begins : goal.returns-then-not-begins
 returns-then-not-begins c = record {
-  led = λ k s d. item_refuses _ _ c.args.sort k s _ _ c.in-ok-c.ensures.0 (sym c.if-not-begins.ensures);
+  led = λ k s d. item_refuses _ _ c.args.sort k s _ _ c.in_ok-c.ensures.0 (sym c.if-not-begins.ensures);
   room = tt;
 }
 
 pub returns-then-depth-ge-DEEPEST : goal.returns-then-depth-ge-DEEPEST
 returns-then-depth-ge-DEEPEST c = record {
-  led = λ k s d. item_deep _ _ c.args.sort k s _ _ c.in-ok-c.ensures.0 c.if-c-eq40.true (omega arith);
+  led = λ k s d. item_deep _ _ c.args.sort k s _ _ c.in_ok-c.ensures.0 c.if-c-eq40.true (omega arith);
   room = tt;
 }
 
 pub returns : goal.returns
 returns c = record {
-  led = λ k s d. item_begins _ _ c.args.sort k s _ _ c.in-ok-c.ensures.0 (sym c.if-not-begins.ensures) (λ q. omega (arith, room_of c.else-c-eq40.either q));
-  room = λ q. room_of c.else-c-eq40.either (sym (ap (λ (l : List ℕ). get_or l 0 0) c.in-ok-c.ensures.0) ∙ q);
+  led = λ k s d. item_begins _ _ c.args.sort k s _ _ c.in_ok-c.ensures.0 (sym c.if-not-begins.ensures) (λ q. omega (arith, room_of c.else-c-eq40.either q));
+  room = λ q. room_of c.else-c-eq40.either (sym (ap (λ (l : List ℕ). get_or l 0 0) c.in_ok-c.ensures.0) ∙ q);
 }

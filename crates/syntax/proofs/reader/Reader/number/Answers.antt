@@ -1,66 +1,63 @@
-use Rattle.std.proofs.Common.{◌≡◌, true, false, ◌&&◌, ltb, List, ◌∷◌, sym, refl, ap, ◌∙◌, arith}
+use Rattle.std.proofs.Common.{sym, ◌∙◌, arith}
 use Rattle.std.proofs.lemmas.Bool.{and_from, and_left, and_right, lt-ltb, le-ltb, both_ways}
-use Rattle.syntax.specs.Grammar.{Want, Stop, byte}
-use Rattle.syntax.specs.Grammar.Want.{number, digits}
-use Rattle.syntax.specs.Reading.{Seen, go, digit}
 use Rattle.syntax.proofs.Steps.{number_refuses, number_zero, number_some, digits_stop, digits_large, digits_sheet, digits_on, go_none}
 use Rattle.std.proofs.lemmas.Result.{IfOk-from_err}
 use Rattle.syntax.proofs.Exits.{exit, told_grammar}
 use Rattle.syntax.proofs.reader.Reader.number.Goals as goal
 use Rattle.syntax.proofs.reader.Reader.number.Goals.{else-counts-via-then-counts+else-value-gt-MOST, else-counts-via-else-counts}
 
-pub returns-in-err-c : goal.returns-in-err-c
-returns-in-err-c c = record {
-  few = IfOk-from_err _ _ c.from-residual.ensures.0;
-  led = λ a k s g. exit _ _ c.from-residual.ensures.1 _ _ (told_grammar _ _ _ c.in-err-c.ensures.1 (go_none _ _ s _ c.in-err-c.ensures.0));
+pub returns-in_err-c : goal.returns-in_err-c
+returns-in_err-c c = record {
+  few = IfOk-from_err _ _ c.from_residual.ensures.0;
+  led = λ a k s g. exit _ _ c.from_residual.ensures.1 _ _ (told_grammar _ _ _ c.in_err-c.ensures.1 (go_none _ _ s _ c.in_err-c.ensures.0));
 }
 
-pub returns-then-not-is-ascii-digit : goal.returns-then-not-is-ascii-digit
-returns-then-not-is-ascii-digit c = record {
+pub returns-then-not-is_ascii_digit : goal.returns-then-not-is_ascii_digit
+returns-then-not-is_ascii_digit c = record {
   few = tt;
-  led = λ a k s g. number_refuses _ _ _ a k s _ _ c.in-ok-c.ensures.0 (sym c.if-not-is-ascii-digit.ensures.value);
+  led = λ a k s g. number_refuses _ _ _ a k s _ _ c.in_ok-c.ensures.0 (sym c.if-not-is_ascii_digit.ensures.value);
 }
 
 pub returns-then-value-eq0 : goal.returns-then-value-eq0
 returns-then-value-eq0 c = record {
   few = λ k. omega arith;
-  led = λ a k s g. number_zero _ _ _ a k s c.in-ok-c.c _ c.in-ok-c.ensures.0 (omega (arith, c.if-not-is-ascii-digit.ensures.cases));
+  led = λ a k s g. number_zero _ _ _ a k s c.in_ok-c.c _ c.in_ok-c.ensures.0 (omega (arith, c.if-not-is_ascii_digit.ensures.cases));
 }
 
 -- from the first digit to the loop, and through its turns
-pub returns-in-err-c-2 : goal.returns-in-err-c-2
-returns-in-err-c-2 c = record {
-  few = IfOk-from_err _ _ c.from-residual-in-err-c-2.ensures.0;
-  led = λ a k s g. exit _ _ c.from-residual-in-err-c-2.ensures.1 _ _ (told_grammar _ _ _ c.in-err-c-2.ensures.1
-      (number_some _ _ _ a k s _ _ c.in-ok-c.ensures.0 (sym c.if-not-is-ascii-digit.ensures.value) (λ e. c.if-value-eq0.false (omega arith)) _ c.from-value.ensures
-      ∙ c.loop-c.invariant.0 a k s g ∙ go_none _ _ s _ c.in-err-c-2.ensures.0));
+pub returns-in_err-c-2 : goal.returns-in_err-c-2
+returns-in_err-c-2 c = record {
+  few = IfOk-from_err _ _ c.from_residual-in_err-c-2.ensures.0;
+  led = λ a k s g. exit _ _ c.from_residual-in_err-c-2.ensures.1 _ _ (told_grammar _ _ _ c.in_err-c-2.ensures.1
+      (number_some _ _ _ a k s _ _ c.in_ok-c.ensures.0 (sym c.if-not-is_ascii_digit.ensures.value) (λ e. c.if-value-eq0.false (omega arith)) _ c.from-value.ensures
+      ∙ c.loop-c.invariant.0 a k s g ∙ go_none _ _ s _ c.in_err-c-2.ensures.0));
 }
 
-pub returns-then-not-is-ascii-digit-2 : goal.returns-then-not-is-ascii-digit-2
-returns-then-not-is-ascii-digit-2 c = record {
+pub returns-then-not-is_ascii_digit-2 : goal.returns-then-not-is_ascii_digit-2
+returns-then-not-is_ascii_digit-2 c = record {
   few = c.loop-c.invariant.2;
-  led = λ a k s g. number_some _ _ _ a k s _ _ c.in-ok-c.ensures.0 (sym c.if-not-is-ascii-digit.ensures.value) (λ e. c.if-value-eq0.false (omega arith)) _ c.from-value.ensures
-      ∙ c.loop-c.invariant.0 a k s g ∙ digits_stop _ _ _ a k s _ _ c.in-ok-c-2.ensures.0 _ _ g (sym c.if-not-is-ascii-digit-2.ensures.value);
+  led = λ a k s g. number_some _ _ _ a k s _ _ c.in_ok-c.ensures.0 (sym c.if-not-is_ascii_digit.ensures.value) (λ e. c.if-value-eq0.false (omega arith)) _ c.from-value.ensures
+      ∙ c.loop-c.invariant.0 a k s g ∙ digits_stop _ _ _ a k s _ _ c.in_ok-c-2.ensures.0 _ _ g (sym c.if-not-is_ascii_digit-2.ensures.value);
 }
 
 pub returns-then-value-gt-LARGEST : goal.returns-then-value-gt-LARGEST
 returns-then-value-gt-LARGEST c = record {
   few = tt;
-  led = λ a k s g. number_some _ _ _ a k s _ _ c.in-ok-c.ensures.0 (sym c.if-not-is-ascii-digit.ensures.value) (λ e. c.if-value-eq0.false (omega arith)) _ c.from-value.ensures
-      ∙ c.loop-c.invariant.0 a k s g ∙ digits_large _ _ _ a k s _ _ c.in-ok-c-2.ensures.0 _ _ g (sym c.if-not-is-ascii-digit-2.ensures.value) _ c.from.ensures c.if-value-gt-LARGEST.true;
+  led = λ a k s g. number_some _ _ _ a k s _ _ c.in_ok-c.ensures.0 (sym c.if-not-is_ascii_digit.ensures.value) (λ e. c.if-value-eq0.false (omega arith)) _ c.from-value.ensures
+      ∙ c.loop-c.invariant.0 a k s g ∙ digits_large _ _ _ a k s _ _ c.in_ok-c-2.ensures.0 _ _ g (sym c.if-not-is_ascii_digit-2.ensures.value) _ c.from.ensures c.if-value-gt-LARGEST.true;
 }
 
 pub returns-then-value-gt-MOST : goal.returns-then-value-gt-MOST
 returns-then-value-gt-MOST c = record {
   few = tt;
-  led = λ a k s g. number_some _ _ _ a k s _ _ c.in-ok-c.ensures.0 (sym c.if-not-is-ascii-digit.ensures.value) (λ e. c.if-value-eq0.false (omega arith)) _ c.from-value.ensures
-      ∙ c.loop-c.invariant.0 a k s g ∙ digits_sheet _ _ _ a k s _ _ c.in-ok-c-2.ensures.0 _ _ g (sym c.if-not-is-ascii-digit-2.ensures.value) _ c.from.ensures (omega arith)
+  led = λ a k s g. number_some _ _ _ a k s _ _ c.in_ok-c.ensures.0 (sym c.if-not-is_ascii_digit.ensures.value) (λ e. c.if-value-eq0.false (omega arith)) _ c.from-value.ensures
+      ∙ c.loop-c.invariant.0 a k s g ∙ digits_sheet _ _ _ a k s _ _ c.in_ok-c-2.ensures.0 _ _ g (sym c.if-not-is_ascii_digit-2.ensures.value) _ c.from.ensures (omega arith)
       (and_from _ _ c.if-counts.true (lt-ltb 32 _ c.if-value-gt-MOST.true));
 }
 
 pub loop-c-preserved : goal.loop-c-preserved
 loop-c-preserved c = (
-  (λ a k s g. c.loop-c.invariant.0 a k s g ∙ digits_on _ _ _ a k s _ _ c.in-ok-c-2.ensures.0 _ _ g (sym c.if-not-is-ascii-digit-2.ensures.value) _ c.from.ensures (omega arith)
+  (λ a k s g. c.loop-c.invariant.0 a k s g ∙ digits_on _ _ _ a k s _ _ c.in_ok-c-2.ensures.0 _ _ g (sym c.if-not-is_ascii_digit-2.ensures.value) _ c.from.ensures (omega arith)
       (elim c.else-counts.branch [ else-counts-via-then-counts+else-value-gt-MOST w ↦ and_right c.args.counts _ (le-ltb 32 _ w.if-value-gt-MOST.false) | else-counts-via-else-counts w ↦ and_left c.args.counts _ w.if-counts.false ])),
   omega arith,
   λ k. elim c.else-counts.branch [ else-counts-via-then-counts+else-value-gt-MOST w ↦ omega (arith, w.if-value-gt-MOST.false) | else-counts-via-else-counts w ↦ absurd (both_ways c.args.counts w.if-counts.false k) ],

@@ -1,4 +1,4 @@
-use Rattle.std.proofs.Common.{sym, refl, ap, ◌∙◌, arith}
+use Rattle.std.proofs.Common.{sym, ◌∙◌}
 use Rattle.std.proofs.lemmas.List.{take_rest}
 use Rattle.std.proofs.lemmas.Result.{IfOk-from_err}
 use Rattle.syntax.proofs.Steps.{go_none}
@@ -6,10 +6,10 @@ use Rattle.syntax.proofs.Exits.{exit, told_grammar}
 use Rattle.syntax.proofs.Finds.{word_found, word_missed, bracket_first}
 use Rattle.syntax.proofs.reader.Reader.pick.Goals as goal
 
-pub returns-in-err-peek : goal.returns-in-err-peek
-returns-in-err-peek c = record {
-  led = λ o k s a free. exit _ _ c.from-residual.ensures.1 _ _ (told_grammar _ _ _ c.in-err-peek.ensures.1 (go_none _ _ s _ c.in-err-peek.ensures.0));
-  picked = IfOk-from_err _ _ c.from-residual.ensures.0;
+pub returns-in_err-peek : goal.returns-in_err-peek
+returns-in_err-peek c = record {
+  led = λ o k s a free. exit _ _ c.from_residual.ensures.1 _ _ (told_grammar _ _ _ c.in_err-peek.ensures.1 (go_none _ _ s _ c.in_err-peek.ensures.0));
+  picked = IfOk-from_err _ _ c.from_residual.ensures.0;
 }
 
 pub returns-in-Ok : goal.returns-in-Ok

@@ -1,4 +1,4 @@
-use Rattle.std.proofs.Common.{◌≡◌, ℕ, ◌-◌, ◌≤◌, List, [], ◌∷◌, length}
+use Rattle.std.proofs.Common.{◌≡◌, ◌-◌, [], ◌∷◌, length}
 use Rattle.syntax.specs.Grammar.Want.{item}
 use Rattle.syntax.specs.Place.{tables}
 use Rattle.syntax.specs.Views.{at}

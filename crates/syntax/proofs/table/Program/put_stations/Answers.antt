@@ -1,4 +1,4 @@
-use Rattle.std.proofs.Common.{◌≡◌, ◌+◌, ◌<◌, ◌≤◌, ◌++◌, length, drop, sym, ◌∙◌, arith}
+use Rattle.std.proofs.Common.{◌+◌, ◌<◌, ◌≤◌, length, drop, sym, ◌∙◌, arith}
 use Rattle.std.proofs.lemmas.List.{take_all}
 use Rattle.lines.proofs.Pieces.{begins, then, took_then, stops}
 use Rattle.syntax.specs.Place.{tables}
@@ -10,18 +10,18 @@ pub loop-site-init : goal.loop-site-init
 loop-site-init c = begins c.args.pen.now c.args.out.now c.requires
 
 pub unreachable-requires : goal.unreachable-requires
-unreachable-requires c = never_none (tables c.args.self.now).stations c.loop-site.site (omega arith) (sym c.get.ensures ∙ c.in-default.is)
+unreachable-requires c = never_none (tables c.args.self.now).stations c.loop-site.site (omega arith) (sym c.get.ensures ∙ c.in_default.is)
 
-pub returns-in-err-put-station : goal.returns-in-err-put-station
-returns-in-err-put-station c =
+pub returns-in_err-put_station : goal.returns-in_err-put_station
+returns-in_err-put_station c =
     let h : c.loop-site.site < length (tables c.args.self.now).stations = omega arith in
     rw (lines_cut (tables c.args.self.now).stations c.loop-site.site c.in-Some.station h (sym c.get.ensures ∙ c.in-Some.is))
-    (then c.loop-site.invariant (stops (station_line c.in-Some.station) (station_lines (drop (c.loop-site.site + 1) (tables c.args.self.now).stations)) c.from-residual.ensures.0 c.in-err-put-station.ensures.ended))
+    (then c.loop-site.invariant (stops (station_line c.in-Some.station) (station_lines (drop (c.loop-site.site + 1) (tables c.args.self.now).stations)) c.from_residual.ensures.0 c.in_err-put_station.ensures.ended))
 
 pub loop-site-preserved : goal.loop-site-preserved
 loop-site-preserved c =
     let h : c.loop-site.site < length (tables c.args.self.now).stations = omega arith in
-    rw (lines_more (tables c.args.self.now).stations c.loop-site.site c.in-Some.station h (sym c.get.ensures ∙ c.in-Some.is)) (took_then c.loop-site.invariant c.in-ok-put-station.ensures.ended)
+    rw (lines_more (tables c.args.self.now).stations c.loop-site.site c.in-Some.station h (sym c.get.ensures ∙ c.in-Some.is)) (took_then c.loop-site.invariant c.in_ok-put_station.ensures.ended)
 
 pub returns : goal.returns
 returns c =

@@ -5,7 +5,7 @@ use Rattle.syntax.proofs.table.Program.write.Goals as goal
 
 pub returns : goal.returns
 returns c =
-    let t = c.in-ok-put-text-2.ensures.ended in
+    let t = c.in_ok-put_text-2.ensures.ended in
     record {
       value = fills (text_of (tables c.args.self.now)) c.args.out.now c.new-pen.result c.new-pen.ensures.at c.new-pen.ensures.limit t;
       after = fills_after (text_of (tables c.args.self.now)) c.args.out.now c.new-pen.result c.new-pen.ensures.at c.new-pen.ensures.limit t;
