@@ -1,5 +1,5 @@
 -- Judging a term part by part.
-use Rattle.std.proofs.Common.{◌≡◌, ℕ, zero, suc, ◌+◌, ◌-◌, ◌<◌, ◌≤◌, Bool, true, false, cond, eqb, ltb, List, [], ◌∷◌, ◌++◌, map, length, get_or, take, IsErrAnd, Some, None, Ok, Err, vec_items, Result, sym, refl, ap, ◌∙◌, subst, ⊎_elim, arith, length-append, ltb-false, ltb-true, eqb-true}
+use Rattle.std.proofs.Common.{◌≡◌, ℕ, zero, suc, ◌+◌, ◌-◌, ◌<◌, ◌≤◌, Bool, true, false, cond, ltb, List, [], ◌∷◌, ◌++◌, map, length, get_or, take, IsErrAnd, Some, None, Ok, Err, vec_items, Result, sym, refl, ap, ◌∙◌, subst, ⊎_elim, arith, length-append, ltb-false, ltb-true, eqb-true}
 use mathlib.Core.Option.{some, none as nothing}
 use lib.ListN.{get_elem?}
 use borrow.Author.Tests.{eqb-false}
@@ -30,8 +30,8 @@ use Rattle.checker.specs.Lookups.{innermost, same_place, Stands, registered}
 use Rattle.checker.proofs.Counts.{level_in, level_out}
 use Rattle.checker.specs.declared.context.Height.{Height}
 use Rattle.checker.specs.declared.context.Context.{Context}
-use Rattle.checker.specs.TypeTable.{meaning, Below, Given, Laid}
-use Rattle.checker.specs.Scopes.{values_of, continuations_of, rows_of, meaning_of, context_of, world_of, Kept}
+use Rattle.checker.specs.TypeTable.{Below, Given, Laid}
+use Rattle.checker.specs.Scopes.{rows_of, meaning_of, context_of, world_of}
 use Rattle.checker.specs.Judging.{checked_program, with_parts, size, SoundTerms, EachBelow, Ready, Asks, verdict, row_verdict, Grown, Typed, Answers, Judged, Fits, Held, Same, Built, held}
 use Rattle.checker.proofs.Table.{getElem_getD, grow_below, meaning_at, meaning_written}
 use Rattle.checker.proofs.Rows.{sound_sorted, size_at}

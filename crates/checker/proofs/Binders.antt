@@ -1,12 +1,10 @@
 -- Judging inside a binder: what is bound around it, and what is left when its scope ends.
-use Rattle.std.proofs.Common.{◌≡◌, ℕ, suc, ◌+◌, ◌<◌, ◌≤◌, List, [], ◌∷◌, ◌++◌, map, length, take, Ok, Err, vec_items, Result, sym, refl, ap, ◌∙◌, subst, add-one, arith}
+use Rattle.std.proofs.Common.{◌≡◌, ℕ, ◌+◌, ◌<◌, ◌≤◌, List, [], ◌∷◌, ◌++◌, map, length, take, Ok, Err, vec_items, Result, sym, refl, ap, ◌∙◌, subst, add-one, arith}
 use Rattle.instruments.specs.declared.sheet.Station.{Station}
 use Rattle.syntax.specs.declared.program.Ty.{Ty as TypeRow}
 use Rattle.syntax.specs.declared.program.Term.{Term as TermRow}
 use Rattle.calculus.specs.Types.{Ty, World}
-use Rattle.calculus.specs.Typing.{Context as Around, binding_value, binding_world, binding_continuation}
-use Rattle.calculus.specs.Program.{Program}
-use Rattle.checker.specs.declared.context.At.{At}
+use Rattle.calculus.specs.Typing.{binding_value, binding_world, binding_continuation}
 use Rattle.checker.specs.declared.context.Bound.{Bound}
 use Rattle.checker.specs.declared.context.Height.{Height}
 use Rattle.checker.specs.declared.context.Context.{Context}
@@ -15,7 +13,7 @@ use Rattle.checker.specs.Scopes.{values_of, continuations_of, rows_of, meaning_o
 use Rattle.std.proofs.lemmas.List.{take-take}
 use Rattle.lines.specs.declared.refusal.CheckFault.{CheckFault}
 use Rattle.calculus.specs.Checker.{Checked, typed}
-use Rattle.checker.specs.Judging.{checked_program, EachBelow, Ready, SoundTerms, Asks, Grown, Typed, Answers, Judged, Same, Under}
+use Rattle.checker.specs.Judging.{checked_program, EachBelow, SoundTerms, Asks, Grown, Typed, Answers, Judged, Same, Under}
 
 pub kept_then : {h : Height} {c d e : Context} → Kept h c d → Kept h d e → Kept h c e
 kept_then p q = record { values = q.values ∙ p.values; continuations = q.continuations ∙ p.continuations; written = q.written ∙ p.written }

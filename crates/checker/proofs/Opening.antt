@@ -1,13 +1,13 @@
 -- Taking a type apart by its row.
-use Rattle.std.proofs.Common.{◌≡◌, ℕ, ◌<◌, Bool, true, false, List, length, get_or, is_some, Some, None, Option, sym, refl, ap, ◌∙◌, arith}
+use Rattle.std.proofs.Common.{◌≡◌, ℕ, ◌<◌, true, false, List, length, get_or, Some, None, refl, ap, ◌∙◌, arith}
 use Rattle.lines.specs.declared.refusal.CheckFault.{CheckFault}
 use Rattle.syntax.specs.declared.program.Mobile.{Mobile}
 use Rattle.syntax.specs.declared.program.Mobile.TheVariants.{Code, Address, Number}
 use Rattle.syntax.specs.declared.program.Ty.{Ty as TypeRow}
 use Rattle.syntax.specs.declared.program.Ty.TheVariants as Row
-use Rattle.calculus.specs.Types.{Ty, num, none, fn, box, at, both, same_type}
+use Rattle.calculus.specs.Types.{Ty, num, none}
 use Rattle.calculus.specs.Program.{grow_type}
-use Rattle.calculus.specs.Checker.{Checked, refused, need, when_fn, when_box, when_at, when_both, when_mobile}
+use Rattle.calculus.specs.Checker.{Checked, refused, when_fn, when_box, when_at, when_both, when_mobile}
 use Rattle.checker.specs.Comparing.{alike}
 use Rattle.checker.specs.Judging.{fn_parts, boxed_part, at_part, both_parts, num_row, never_row, carried_row}
 use Rattle.checker.specs.TypeTable.{meaning, Laid}

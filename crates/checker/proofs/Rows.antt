@@ -1,11 +1,10 @@
 -- Rows of terms, by the numbers of their parts.
-use Rattle.std.proofs.Common.{◌≡◌, ℕ, zero, suc, ◌+◌, ◌<◌, ◌≤◌, List, [], ◌∷◌, length, get_or, sym, refl, ap, ◌∙◌, subst, arith}
+use Rattle.std.proofs.Common.{◌≡◌, ℕ, suc, ◌+◌, ◌<◌, List, [], ◌∷◌, length, get_or, refl, ap, ◌∙◌, subst, arith}
 use mathlib.Core.Option.{some}
-use lib.ListN.{get_elem?}
 use Rattle.syntax.specs.declared.program.Term.{Term as TermRow}
 use Rattle.syntax.specs.declared.program.Term.TheVariants as Term
 use Rattle.syntax.specs.Sound.{TermSound}
-use Rattle.calculus.specs.Program.{decode, Above, Sorted}
+use Rattle.calculus.specs.Program.{Above, Sorted}
 use Rattle.calculus.proofs.Decoding.{decode_at}
 use Rattle.checker.specs.Judging.{with_parts, size, SoundTerms}
 use Rattle.checker.proofs.Table.{getElem_getD}

@@ -1,15 +1,15 @@
 -- What a table's rows stand for, and that a table which grows keeps it.
-use Rattle.std.proofs.Common.{◌≡◌, ℕ, zero, suc, ◌+◌, ◌-◌, ◌<◌, ◌≤◌, List, [], ◌∷◌, ◌++◌, length, get_or, take, drop, sym, refl, ap, ◌∙◌, subst, ⊎_elim, arith, length-append, length-drop}
+use Rattle.std.proofs.Common.{◌≡◌, ℕ, zero, suc, ◌+◌, ◌-◌, ◌<◌, ◌≤◌, List, [], ◌∷◌, ◌++◌, length, get_or, take, drop, sym, refl, ap, ◌∙◌, ⊎_elim, arith, length-append, length-drop}
 use mathlib.Core.Option.{some}
 use lib.ListN.{get_elem?}
 use Rattle.std.proofs.lemmas.List.{take-append-drop, length-take-le, get_or-take, at_drop_more, drop-drop}
 use Rattle.std.proofs.lemmas.Bool.{cases_lt}
 use Rattle.syntax.specs.declared.program.Ty.{Ty as TypeRow}
 use Rattle.syntax.specs.declared.program.Ty.TheVariants as Row
-use Rattle.calculus.specs.Types.{Ty, num, none, fn, box, at, both}
+use Rattle.calculus.specs.Types.{Ty, num, fn, box, at, both}
 use Rattle.calculus.specs.Program.{decoded, grow_type}
 use Rattle.calculus.proofs.Decoding.{type_recurs}
-use Rattle.checker.specs.TypeTable.{written_types, built_types, meaning, Below, Given, Laid}
+use Rattle.checker.specs.TypeTable.{written_types, built_types, meaning, Below, Laid}
 
 -- rows built in two parts
 pub built_append : (ms : List Ty) (xs ys : List TypeRow) → built_types ms (xs ++ ys) ≡ built_types (built_types ms xs) ys

@@ -1,22 +1,18 @@
 -- From one part of a term to the next: what a scope list stands for while types are added.
-use Rattle.std.proofs.Common.{◌≡◌, ℕ, zero, suc, ◌+◌, ◌-◌, ◌<◌, ◌≤◌, Bool, true, false, cond, ◌&&◌, List, [], ◌∷◌, ◌++◌, map, length, get_or, take, drop, Ok, Err, vec_items, Result, sym, refl, ap, ◌∙◌, subst, arith, length-append}
+use Rattle.std.proofs.Common.{◌≡◌, ℕ, ◌<◌, ◌≤◌, Bool, true, false, ◌&&◌, List, [], ◌∷◌, ◌++◌, map, length, get_or, take, drop, vec_items, sym, refl, ap, ◌∙◌, subst, arith, length-append}
 use Rattle.std.proofs.lemmas.List.{take-append-drop, take-append-le, drop-append-le}
 use Rattle.lines.specs.declared.refusal.CheckFault.{CheckFault}
-use Rattle.lines.specs.declared.refusal.CheckFault.TheVariants.{Mismatch}
 use Rattle.instruments.specs.declared.sheet.Station.{Station}
 use Rattle.syntax.specs.declared.program.Ty.{Ty as TypeRow}
-use Rattle.syntax.specs.declared.program.Ty.TheVariants as Row
 use Rattle.syntax.specs.declared.program.Term.{Term as TermRow}
-use Rattle.calculus.specs.Types.{Ty, num, none, fn, box, at, both, same_type, World}
-use Rattle.calculus.specs.Typing.{Context as Around}
-use Rattle.calculus.specs.Program.{Program, grow_type}
-use Rattle.calculus.specs.Checker.{Checked, typed, refused, then_type, need, expecting, judge}
+use Rattle.calculus.specs.Types.{Ty, num, none, fn, box, at, both, same_type}
+use Rattle.calculus.specs.Checker.{Checked, refused, need}
 use Rattle.checker.specs.declared.context.Bound.{Bound}
 use Rattle.checker.specs.declared.context.Context.{Context}
-use Rattle.checker.specs.TypeTable.{written_types, built_types, meaning, Below, Given, Laid}
+use Rattle.checker.specs.TypeTable.{written_types, built_types, meaning}
 use Rattle.checker.specs.Comparing.{alike}
-use Rattle.checker.specs.Scopes.{values_of, continuations_of, rows_of, meaning_of, context_of, world_of, bound_of, around, Kept}
-use Rattle.checker.specs.Judging.{checked_program, EachBelow, Ready, Grown, Typed, Same, held}
+use Rattle.checker.specs.Scopes.{values_of, continuations_of, rows_of, meaning_of, context_of, world_of, bound_of, around}
+use Rattle.checker.specs.Judging.{checked_program, EachBelow, Ready, Grown, Same}
 use Rattle.checker.proofs.Table.{built_append, built_keeps, length_meant}
 
 -- alike types are the same type

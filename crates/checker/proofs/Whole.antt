@@ -1,22 +1,22 @@
 -- A whole program: what its soundness gives the checker, and what its verdict is.
-use Rattle.std.proofs.Common.{◌≡◌, ℕ, zero, suc, ◌+◌, ◌-◌, ◌<◌, ◌≤◌, Bool, true, false, cond, List, [], ◌∷◌, map, length, get_or, take, Ok, Err, vec_items, Result, sym, refl, ap, ◌∙◌, subst, arith}
+use Rattle.std.proofs.Common.{◌≡◌, ℕ, suc, ◌+◌, ◌-◌, ◌<◌, ◌≤◌, List, [], ◌∷◌, length, get_or, take, Ok, Err, vec_items, Result, sym, refl, ap, ◌∙◌, subst, arith}
 use native.Mathlib.Decide.{dec_lt}
 use Rattle.std.proofs.lemmas.List.{take_all}
 use Rattle.lines.specs.declared.refusal.CheckFault.{CheckFault}
 use Rattle.lines.specs.declared.refusal.CheckFault.TheVariants.{Unbound}
 use Rattle.instruments.specs.declared.sheet.Station.{Station}
 use Rattle.syntax.specs.Place.{Tables}
-use Rattle.syntax.specs.Sound.{TySound, TermSound, sizes}
+use Rattle.syntax.specs.Sound.{TySound, sizes}
 use Rattle.syntax.specs.Sound.{size as syntax_size, with_parts as syntax_parts}
 use Rattle.syntax.proofs.Tests.{Tested, test_says}
 use Rattle.syntax.specs.declared.program.Ty.{Ty as TypeRow}
 use Rattle.syntax.specs.declared.program.Ty.TheVariants as Row
 use Rattle.syntax.specs.declared.program.Term.{Term as TermRow}
 use Rattle.syntax.specs.declared.program.Term.TheVariants as Term
-use Rattle.calculus.specs.Types.{Ty, site}
+use Rattle.calculus.specs.Types.{site}
 use Rattle.calculus.specs.Typing.{closed}
-use Rattle.calculus.specs.Program.{Program, decoded, AboveType, Sorted}
-use Rattle.calculus.specs.Checker.{Checked, typed, refused, need, check, judge}
+use Rattle.calculus.specs.Program.{decoded, AboveType, Sorted}
+use Rattle.calculus.specs.Checker.{check, judge}
 use Rattle.checker.specs.declared.context.At.TheVariants.{Site}
 use Rattle.checker.specs.declared.context.Context.{Context}
 use Rattle.checker.specs.TypeTable.{Below, Given, Laid}

@@ -1,5 +1,5 @@
 -- What judging a whole program answers.
-use Rattle.std.specs.Prelude.{◌≡◌, ℕ, ◌<◌, true, length, take, Ok, Err, Result}
+use Rattle.std.specs.Prelude.{◌≡◌, ℕ, true, take, Ok, Err, Result}
 use Rattle.lines.specs.declared.refusal.CheckFault.{CheckFault}
 use Rattle.syntax.specs.Place.{Tables}
 use Rattle.syntax.specs.Tests.{sound_test}

@@ -1,5 +1,5 @@
 -- What judging a term answers and leaves.
-use Rattle.std.specs.Prelude.{◌≡◌, ℕ, suc, ◌+◌, ◌<◌, ◌≤◌, Bool, true, false, cond, List, [], ◌∷◌, ◌++◌, length, take, is_some, Some, None, Ok, Err, Option, Result, slice_index_or}
+use Rattle.std.specs.Prelude.{◌≡◌, ℕ, ◌+◌, ◌<◌, ◌≤◌, Bool, true, false, cond, List, [], ◌∷◌, ◌++◌, length, take, is_some, Some, None, Ok, Err, Option, Result, slice_index_or}
 use Rattle.syntax.specs.declared.program.Mobile.{Mobile}
 use Rattle.syntax.specs.declared.program.Mobile.TheVariants.{Code, Address, Number}
 use Rattle.lines.specs.declared.refusal.CheckFault.{CheckFault}
@@ -17,7 +17,7 @@ use Rattle.checker.specs.declared.context.At.{At}
 use Rattle.checker.specs.declared.context.Height.{Height}
 use Rattle.checker.specs.declared.context.Context.{Context}
 use Rattle.checker.specs.declared.context.Bound.{Bound}
-use Rattle.checker.specs.TypeTable.{meaning, Below, Given, Laid}
+use Rattle.checker.specs.TypeTable.{Laid}
 use Rattle.checker.specs.Comparing.{alike}
 use Rattle.checker.specs.Scopes.{values_of, continuations_of, rows_of, meaning_of, context_of, world_of, Kept}
 

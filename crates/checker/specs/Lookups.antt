@@ -1,5 +1,5 @@
 -- What counts, worlds and registers of a term stand for.
-use Rattle.std.specs.Prelude.{◌≡◌, ℕ, ◌-◌, ◌<◌, Bool, true, false, cond, List, [], ◌∷◌, length, Some, None, Ok, Err, Option, Result, ◌==◌, nat_lt}
+use Rattle.std.specs.Prelude.{◌≡◌, ℕ, ◌-◌, ◌<◌, Bool, false, cond, List, length, None, Ok, Err, Option, Result, ◌==◌, nat_lt}
 use Rattle.std.specs.List.{slice_get}
 use Rattle.lines.specs.declared.refusal.CheckFault.{CheckFault}
 use Rattle.lines.specs.declared.refusal.CheckFault.TheVariants.{Unbound, BoundWorld, NotOnSheet}

@@ -1,7 +1,7 @@
-use Rattle.std.proofs.Common.{◌≡◌, Err, sym, refl, ap, ◌∙◌}
+use Rattle.std.proofs.Common.{Err, sym, refl, ap, ◌∙◌}
 use Rattle.std.proofs.lemmas.Result.{err_from_is_err_and}
 use Rattle.lines.specs.declared.refusal.Refusal.{Refusal}
-use Rattle.syntax.specs.Place.{tables, place as text_place}
+use Rattle.syntax.specs.Place.{tables}
 use Rattle.calculus.proofs.Checking.{check_decides}
 use Rattle.checker.specs.Accepting.{place, program_of, answer, answered, filled, checked_into}
 use Rattle.checker.proofs.checking.check.Goals as goal

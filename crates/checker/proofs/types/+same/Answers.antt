@@ -1,8 +1,6 @@
-use Rattle.std.proofs.Common.{◌≡◌, ℕ, ◌<◌, ◌≤◌, Bool, true, false, ◌&&◌, length, get_or, sym, refl, ap, ◌∙◌, arith, rules}
-use Rattle.syntax.specs.declared.program.Ty.{Ty as TypeRow}
+use Rattle.std.proofs.Common.{ℕ, ◌<◌, ◌≤◌, Bool, ◌&&◌, length, get_or, sym, refl, ap, ◌∙◌, arith, rules}
 use Rattle.syntax.specs.declared.program.Ty.TheVariants as Row
-use Rattle.calculus.specs.Types.{Ty, num, none, fn, box, at, both}
-use Rattle.calculus.specs.Program.{grow_type, AboveType}
+use Rattle.calculus.specs.Program.{AboveType}
 use Rattle.checker.specs.TypeTable.{meaning, Below}
 use Rattle.checker.specs.Comparing.{alike}
 use Rattle.checker.proofs.Compare.{parts_in, parts_behind, compare_at, not_num, not_none, not_fn, not_box, not_at, not_both}

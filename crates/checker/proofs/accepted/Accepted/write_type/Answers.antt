@@ -1,4 +1,4 @@
-use Rattle.std.proofs.Common.{◌≡◌, ℕ, ◌<◌, Bool, true, false, List, length, vec_items, sym, ap, ◌∙◌, subst, arith, rules}
+use Rattle.std.proofs.Common.{◌≡◌, ℕ, ◌<◌, Bool, true, false, List, length, vec_items, sym, ap, ◌∙◌, subst, arith}
 use Rattle.lines.specs.Writing.{written_after}
 use Rattle.lines.proofs.Pieces.{fills, fills_after}
 use Rattle.syntax.specs.declared.program.Ty.{Ty as TypeRow}

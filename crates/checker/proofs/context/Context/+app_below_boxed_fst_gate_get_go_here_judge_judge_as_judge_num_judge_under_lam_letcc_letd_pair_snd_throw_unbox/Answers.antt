@@ -1,28 +1,24 @@
-use Rattle.std.proofs.Common.{◌≡◌, ℕ, ◌+◌, ◌<◌, ◌≤◌, true, false, map, length, get_or, Some, None, Option, sym, refl, ap, ◌∙◌, subst, arith, rules}
+use Rattle.std.proofs.Common.{◌≡◌, ℕ, ◌+◌, ◌<◌, map, length, get_or, Some, sym, ap, ◌∙◌, subst, arith, rules}
 use lib.ListN.{get_elem?}
 use native.Mathlib.Decide.{dec_lt}
-use mathlib.Core.Option.{Option as Lookup, some}
-use Rattle.lines.specs.declared.refusal.CheckFault.{CheckFault}
+use mathlib.Core.Option.{Option as Lookup}
 use Rattle.lines.specs.declared.refusal.CheckFault.TheVariants.{Mismatch, Unbound, BoundWorld, NotOnSheet}
 use Rattle.instruments.specs.Sheets.{stations_of}
 use Rattle.syntax.specs.declared.program.Ty.TheVariants as TyRow
-use Rattle.syntax.specs.declared.program.Term.{Term as TermRow}
 use Rattle.syntax.specs.declared.program.Term.TheVariants as Row
 use Rattle.syntax.specs.Sound.{TermSound, Inside}
 use Rattle.calculus.specs.Types.{Ty, num, none, fn, box, at, both, World, bound, gates_there}
 use Rattle.calculus.specs.Typing.{Context as Around, binding_value, binding_world, binding_continuation}
 use Rattle.calculus.specs.Program.{Program, type_of, world_there, level}
-use Rattle.calculus.specs.Checker.{Checked, typed, refused, then_type, goal, when_fn, when_box, when_at, when_both, when_mobile, expecting, when_site, bound_continuation, is_known, judge}
-use Rattle.checker.specs.declared.context.At.{At}
+use Rattle.calculus.specs.Checker.{Checked, typed, refused, then_type, need, when_fn, when_box, when_at, when_both, when_mobile, expecting, when_site, bound_continuation, is_known, judge}
 use Rattle.checker.specs.declared.context.At.TheVariants.{Level}
 use Rattle.checker.specs.declared.context.Bound.{Bound}
 use Rattle.checker.specs.declared.context.Height.{Height}
-use Rattle.checker.specs.declared.context.Context.{Context}
 use Rattle.checker.specs.TypeTable.{Below, Given}
 use Rattle.checker.specs.Scopes.{rows_of, meaning_of, context_of, world_of, bound_of, continuations_of}
-use Rattle.checker.specs.Judging.{checked_program, size, with_parts, fn_parts, boxed_part, at_part, both_parts, num_row, never_row, carried_row, held, Under, Judged, Held, Asks, verdict, row_verdict, Grown, Typed, Same}
+use Rattle.checker.specs.Judging.{checked_program, size, with_parts, boxed_part, both_parts, Judged, verdict, Grown, Same}
 use Rattle.checker.proofs.Verdicts.{keeps, more_rows, ready_kept, needs_met, context_kept, program_kept}
-use Rattle.checker.proofs.Arms.{same_self, grown_none, same_then, grown_then, grown_more, next_part, row_sound, verdict_kept, row_judged, row_size, stops, built_grown, built_number, built_is, fits, unfit, held_fits, held_unfit, stops_held, by_row, written_is, stands_known, registered_goes, registered_stops, looked, not_looked, looked_below, judged_from}
+use Rattle.checker.proofs.Arms.{same_self, grown_none, same_then, grown_then, grown_more, next_part, row_sound, verdict_kept, row_size, stops, built_grown, built_number, built_is, fits, unfit, held_fits, held_unfit, stops_held, by_row, written_is, stands_known, registered_goes, looked, not_looked, looked_below, judged_from}
 use Rattle.checker.proofs.Opening.{fn_goes, fn_stops, fn_inside, boxed_goes, boxed_stops, boxed_inside, at_goes, at_stops, at_inside, both_goes, both_stops, both_inside, num_is, never_is, mobile_goes, mobile_stops}
 use Rattle.checker.proofs.Binders.{kept_then, ended, grown_from, moved, kept_under, kept_below, same_meaning, same_program, value_context, value_asks, world_context, world_asks, continuation_context, continuation_asks}
 use Rattle.checker.proofs.context.Context.+app_below_boxed_fst_gate_get_go_here_judge_judge_as_judge_num_judge_under_lam_letcc_letd_pair_snd_throw_unbox.Goals as goal
@@ -440,7 +436,7 @@ get-returns-then-is_carried t c =
     let sz : size c.args.terms.now c.args.term ≡ with_parts (size c.args.terms.now) (Row.Get c.args.mobile c.args.there c.args.part) = row_size A (Row.Get c.args.mobile c.args.there c.args.part) c.requires.row in
     let t1 = c.in_ok-given.ensures.judged.answer in
     let loc = c.in_ok-elsewhere.ensures in
-    let o : goal (is_known (stations_of c.args.sheet.now) c.args.self.now.height.worlds (world_there c.args.self.now.height.worlds c.args.there)) (Unbound c.args.term) (then_type (judge (checked_program c.args.self.now (stations_of c.args.sheet.now) c.args.terms.now) c.args.part (context_of c.args.self.now) (world_there c.args.self.now.height.worlds c.args.there)) (λ (P : Ty). when_mobile c.args.mobile P (Mismatch c.args.part) (typed P))) ≡ (λ (P : Ty). when_mobile c.args.mobile P (Mismatch c.args.part) (typed P)) (meaning_of c.judge.new.self c.in_ok-given.given) =
+    let o : need (is_known (stations_of c.args.sheet.now) c.args.self.now.height.worlds (world_there c.args.self.now.height.worlds c.args.there)) (Unbound c.args.term) (then_type (judge (checked_program c.args.self.now (stations_of c.args.sheet.now) c.args.terms.now) c.args.part (context_of c.args.self.now) (world_there c.args.self.now.height.worlds c.args.there)) (λ (P : Ty). when_mobile c.args.mobile P (Mismatch c.args.part) (typed P))) ≡ (λ (P : Ty). when_mobile c.args.mobile P (Mismatch c.args.part) (typed P)) (meaning_of c.judge.new.self c.in_ok-given.given) =
     needs_met (is_known (stations_of c.args.sheet.now) c.args.self.now.height.worlds (world_there c.args.self.now.height.worlds c.args.there)) (Unbound c.args.term) (then_type (judge (checked_program c.args.self.now (stations_of c.args.sheet.now) c.args.terms.now) c.args.part (context_of c.args.self.now) (world_there c.args.self.now.height.worlds c.args.there)) (λ (P : Ty). when_mobile c.args.mobile P (Mismatch c.args.part) (typed P))) (stands_known (stations_of c.args.sheet.now) c.args.self.now.height.worlds (world_there c.args.self.now.height.worlds c.args.there) loc.1)
     ∙ ap (λ (u : World). then_type (judge (checked_program c.args.self.now (stations_of c.args.sheet.now) c.args.terms.now) c.args.part (context_of c.args.self.now) u) (λ (P : Ty). when_mobile c.args.mobile P (Mismatch c.args.part) (typed P))) (sym loc.0)
     ∙ ap (λ (x : Checked). then_type x (λ (P : Ty). when_mobile c.args.mobile P (Mismatch c.args.part) (typed P))) t1.verdict in
@@ -453,7 +449,7 @@ get-returns-else-is_carried t c =
     let sz : size c.args.terms.now c.args.term ≡ with_parts (size c.args.terms.now) (Row.Get c.args.mobile c.args.there c.args.part) = row_size A (Row.Get c.args.mobile c.args.there c.args.part) c.requires.row in
     let t1 = c.in_ok-given.ensures.judged.answer in
     let loc = c.in_ok-elsewhere.ensures in
-    let o : goal (is_known (stations_of c.args.sheet.now) c.args.self.now.height.worlds (world_there c.args.self.now.height.worlds c.args.there)) (Unbound c.args.term) (then_type (judge (checked_program c.args.self.now (stations_of c.args.sheet.now) c.args.terms.now) c.args.part (context_of c.args.self.now) (world_there c.args.self.now.height.worlds c.args.there)) (λ (P : Ty). when_mobile c.args.mobile P (Mismatch c.args.part) (typed P))) ≡ (λ (P : Ty). when_mobile c.args.mobile P (Mismatch c.args.part) (typed P)) (meaning_of c.judge.new.self c.in_ok-given.given) =
+    let o : need (is_known (stations_of c.args.sheet.now) c.args.self.now.height.worlds (world_there c.args.self.now.height.worlds c.args.there)) (Unbound c.args.term) (then_type (judge (checked_program c.args.self.now (stations_of c.args.sheet.now) c.args.terms.now) c.args.part (context_of c.args.self.now) (world_there c.args.self.now.height.worlds c.args.there)) (λ (P : Ty). when_mobile c.args.mobile P (Mismatch c.args.part) (typed P))) ≡ (λ (P : Ty). when_mobile c.args.mobile P (Mismatch c.args.part) (typed P)) (meaning_of c.judge.new.self c.in_ok-given.given) =
     needs_met (is_known (stations_of c.args.sheet.now) c.args.self.now.height.worlds (world_there c.args.self.now.height.worlds c.args.there)) (Unbound c.args.term) (then_type (judge (checked_program c.args.self.now (stations_of c.args.sheet.now) c.args.terms.now) c.args.part (context_of c.args.self.now) (world_there c.args.self.now.height.worlds c.args.there)) (λ (P : Ty). when_mobile c.args.mobile P (Mismatch c.args.part) (typed P))) (stands_known (stations_of c.args.sheet.now) c.args.self.now.height.worlds (world_there c.args.self.now.height.worlds c.args.there) loc.1)
     ∙ ap (λ (u : World). then_type (judge (checked_program c.args.self.now (stations_of c.args.sheet.now) c.args.terms.now) c.args.part (context_of c.args.self.now) u) (λ (P : Ty). when_mobile c.args.mobile P (Mismatch c.args.part) (typed P))) (sym loc.0)
     ∙ ap (λ (x : Checked). then_type x (λ (P : Ty). when_mobile c.args.mobile P (Mismatch c.args.part) (typed P))) t1.verdict in
@@ -475,7 +471,7 @@ go-returns-then-is_never t c =
     let t1 = c.in_ok-given.ensures.judged.answer in
     let s1 : Same c.args.self.now c.judge.new.self = c.judge.ensures.same in
     let loc = c.in_ok-elsewhere.ensures in
-    let o : goal (is_known (stations_of c.args.sheet.now) c.args.self.now.height.worlds (world_there c.args.self.now.height.worlds c.args.there)) (Unbound c.args.term) (expecting c.args.part (judge (checked_program c.args.self.now (stations_of c.args.sheet.now) c.args.terms.now) c.args.part (context_of c.args.self.now) (world_there c.args.self.now.height.worlds c.args.there)) none (typed (type_of (checked_program c.args.self.now (stations_of c.args.sheet.now) c.args.terms.now) c.args.written))) ≡ (expecting c.args.part (verdict c.args.self.now (stations_of c.args.sheet.now) c.args.terms.now c.args.part c.in_ok-elsewhere.elsewhere) none (typed (type_of (checked_program c.args.self.now (stations_of c.args.sheet.now) c.args.terms.now) c.args.written))) =
+    let o : need (is_known (stations_of c.args.sheet.now) c.args.self.now.height.worlds (world_there c.args.self.now.height.worlds c.args.there)) (Unbound c.args.term) (expecting c.args.part (judge (checked_program c.args.self.now (stations_of c.args.sheet.now) c.args.terms.now) c.args.part (context_of c.args.self.now) (world_there c.args.self.now.height.worlds c.args.there)) none (typed (type_of (checked_program c.args.self.now (stations_of c.args.sheet.now) c.args.terms.now) c.args.written))) ≡ (expecting c.args.part (verdict c.args.self.now (stations_of c.args.sheet.now) c.args.terms.now c.args.part c.in_ok-elsewhere.elsewhere) none (typed (type_of (checked_program c.args.self.now (stations_of c.args.sheet.now) c.args.terms.now) c.args.written))) =
     needs_met (is_known (stations_of c.args.sheet.now) c.args.self.now.height.worlds (world_there c.args.self.now.height.worlds c.args.there)) (Unbound c.args.term) (expecting c.args.part (judge (checked_program c.args.self.now (stations_of c.args.sheet.now) c.args.terms.now) c.args.part (context_of c.args.self.now) (world_there c.args.self.now.height.worlds c.args.there)) none (typed (type_of (checked_program c.args.self.now (stations_of c.args.sheet.now) c.args.terms.now) c.args.written))) (stands_known (stations_of c.args.sheet.now) c.args.self.now.height.worlds (world_there c.args.self.now.height.worlds c.args.there) loc.1)
     ∙ ap (λ (u : World). (expecting c.args.part (judge (checked_program c.args.self.now (stations_of c.args.sheet.now) c.args.terms.now) c.args.part (context_of c.args.self.now) u) none (typed (type_of (checked_program c.args.self.now (stations_of c.args.sheet.now) c.args.terms.now) c.args.written)))) (sym loc.0) in
     record {
@@ -497,7 +493,7 @@ go-returns-else-is_never t c =
     let t1 = c.in_ok-given.ensures.judged.answer in
     let s1 : Same c.args.self.now c.judge.new.self = c.judge.ensures.same in
     let loc = c.in_ok-elsewhere.ensures in
-    let o : goal (is_known (stations_of c.args.sheet.now) c.args.self.now.height.worlds (world_there c.args.self.now.height.worlds c.args.there)) (Unbound c.args.term) (expecting c.args.part (judge (checked_program c.args.self.now (stations_of c.args.sheet.now) c.args.terms.now) c.args.part (context_of c.args.self.now) (world_there c.args.self.now.height.worlds c.args.there)) none (typed (type_of (checked_program c.args.self.now (stations_of c.args.sheet.now) c.args.terms.now) c.args.written))) ≡ (expecting c.args.part (verdict c.args.self.now (stations_of c.args.sheet.now) c.args.terms.now c.args.part c.in_ok-elsewhere.elsewhere) none (typed (type_of (checked_program c.args.self.now (stations_of c.args.sheet.now) c.args.terms.now) c.args.written))) =
+    let o : need (is_known (stations_of c.args.sheet.now) c.args.self.now.height.worlds (world_there c.args.self.now.height.worlds c.args.there)) (Unbound c.args.term) (expecting c.args.part (judge (checked_program c.args.self.now (stations_of c.args.sheet.now) c.args.terms.now) c.args.part (context_of c.args.self.now) (world_there c.args.self.now.height.worlds c.args.there)) none (typed (type_of (checked_program c.args.self.now (stations_of c.args.sheet.now) c.args.terms.now) c.args.written))) ≡ (expecting c.args.part (verdict c.args.self.now (stations_of c.args.sheet.now) c.args.terms.now c.args.part c.in_ok-elsewhere.elsewhere) none (typed (type_of (checked_program c.args.self.now (stations_of c.args.sheet.now) c.args.terms.now) c.args.written))) =
     needs_met (is_known (stations_of c.args.sheet.now) c.args.self.now.height.worlds (world_there c.args.self.now.height.worlds c.args.there)) (Unbound c.args.term) (expecting c.args.part (judge (checked_program c.args.self.now (stations_of c.args.sheet.now) c.args.terms.now) c.args.part (context_of c.args.self.now) (world_there c.args.self.now.height.worlds c.args.there)) none (typed (type_of (checked_program c.args.self.now (stations_of c.args.sheet.now) c.args.terms.now) c.args.written))) (stands_known (stations_of c.args.sheet.now) c.args.self.now.height.worlds (world_there c.args.self.now.height.worlds c.args.there) loc.1)
     ∙ ap (λ (u : World). (expecting c.args.part (judge (checked_program c.args.self.now (stations_of c.args.sheet.now) c.args.terms.now) c.args.part (context_of c.args.self.now) u) none (typed (type_of (checked_program c.args.self.now (stations_of c.args.sheet.now) c.args.terms.now) c.args.written)))) (sym loc.0) in
     record { judged = record { answer = o ∙ unfit c.args.part none t1 (never_is c.judge.new.self.written (rows_of c.judge.new.self) t1.grown.laid c.in_ok-given.given t1.number ∙ sym c.is_never.ensures ∙ c.if-is_never.false) (typed (type_of (checked_program c.args.self.now (stations_of c.args.sheet.now) c.args.terms.now) c.args.written)) }; same = s1 }
@@ -516,7 +512,7 @@ gate-returns t c =
     let rs : TermSound c.args.self.now.written (c.args.term + 1) (length c.args.terms.now) (Row.Gate c.args.number c.args.part) = row_sound A (Row.Gate c.args.number c.args.part) c.requires.row in
     let sz : size c.args.terms.now c.args.term ≡ with_parts (size c.args.terms.now) (Row.Gate c.args.number c.args.part) = row_size A (Row.Gate c.args.number c.args.part) c.requires.row in
     let t1 = c.in_ok-given.ensures.held.answer in
-    let k = when_site (world_of c.args.world) (BoundWorld c.args.term) (λ s. goal (dec_lt c.args.number (gates_there (stations_of c.args.sheet.now) s)) (NotOnSheet c.args.term) (typed num)) in
+    let k = when_site (world_of c.args.world) (BoundWorld c.args.term) (λ s. need (dec_lt c.args.number (gates_there (stations_of c.args.sheet.now) s)) (NotOnSheet c.args.term) (typed num)) in
     record {
       judged = record {
         answer = record {

@@ -49,11 +49,11 @@ decreases-unbox l = 3 * (length l.terms.now - l.term)
 abbrev pub decreases-judge : goal.decreases-judge
 decreases-judge l = 3 * (length l.terms.now - l.term) + 1
 
-abbrev pub decreases-judge-as : goal.decreases-judge-as
-decreases-judge-as l = 3 * (length l.terms.now - l.term) + 2
+abbrev pub decreases-judge_as : goal.decreases-judge_as
+decreases-judge_as l = 3 * (length l.terms.now - l.term) + 2
 
-abbrev pub decreases-judge-num : goal.decreases-judge-num
-decreases-judge-num l = 3 * (length l.terms.now - l.term) + 2
+abbrev pub decreases-judge_num : goal.decreases-judge_num
+decreases-judge_num l = 3 * (length l.terms.now - l.term) + 2
 
-abbrev pub decreases-judge-under : goal.decreases-judge-under
-decreases-judge-under l = 3 * (length l.terms.now - l.term) + 2
+abbrev pub decreases-judge_under : goal.decreases-judge_under
+decreases-judge_under l = 3 * (length l.terms.now - l.term) + 2

@@ -1,5 +1,5 @@
-use Rattle.std.proofs.Common.{◌≡◌, vec_items, refl, arith, rules}
-use Rattle.std.proofs.lemmas.List.{take_more_set, take_set}
+use Rattle.std.proofs.Common.{vec_items, refl, arith}
+use Rattle.std.proofs.lemmas.List.{take_more_set, take-set}
 use Rattle.checker.specs.declared.context.Bound.{Bound}
 use Rattle.checker.proofs.context.Context.bind_continuation.Goals as goal
 
@@ -11,5 +11,5 @@ returns c =
       continuations = take_more_set (vec_items s.continuations) s.height.continuations b (omega arith);
       height = refl;
       rows = refl;
-      kept = record { continuations = take_set (vec_items s.continuations) s.height.continuations b; values = refl; written = refl };
+      kept = record { continuations = take-set (vec_items s.continuations) s.height.continuations b; values = refl; written = refl };
     }

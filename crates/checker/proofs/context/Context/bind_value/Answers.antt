@@ -1,5 +1,5 @@
-use Rattle.std.proofs.Common.{◌≡◌, vec_items, refl, arith, rules}
-use Rattle.std.proofs.lemmas.List.{take_more_set, take_set}
+use Rattle.std.proofs.Common.{vec_items, refl, arith}
+use Rattle.std.proofs.lemmas.List.{take_more_set, take-set}
 use Rattle.checker.specs.declared.context.Bound.{Bound}
 use Rattle.checker.proofs.context.Context.bind_value.Goals as goal
 
@@ -11,5 +11,5 @@ returns c =
       values = take_more_set (vec_items s.values) s.height.values b (omega arith);
       height = refl;
       rows = refl;
-      kept = record { values = take_set (vec_items s.values) s.height.values b; continuations = refl; written = refl };
+      kept = record { values = take-set (vec_items s.values) s.height.values b; continuations = refl; written = refl };
     }

@@ -1,10 +1,9 @@
-use Rattle.std.proofs.Common.{◌≡◌, List, length, sym, ap, ◌∙◌, subst, arith}
+use Rattle.std.proofs.Common.{List, length, sym, ap, ◌∙◌, subst, arith}
 use Rattle.syntax.specs.Place.{tables}
 use Rattle.syntax.specs.declared.program.Term.{Term}
 use Rattle.checker.specs.Judging.{Asks}
 use Rattle.checker.specs.Concluding.{Clear}
-use Rattle.checker.specs.declared.context.Height.{Height}
-use Rattle.checker.proofs.Whole.{whole_asks, whole_concluded, nowhere_concluded}
+use Rattle.checker.proofs.Whole.{whole_asks, whole_concluded}
 use Rattle.checker.proofs.context.Context.conclude.Goals as goal
 
 pub judge-requires : goal.judge-requires

@@ -1,4 +1,4 @@
-use Rattle.std.proofs.Common.{vec_items, arith, rules}
+use Rattle.std.proofs.Common.{rules}
 use Rattle.checker.proofs.Counts.{innermost_at}
 use Rattle.checker.proofs.context.Context.continuation_at.Goals as goal
 

@@ -1,6 +1,5 @@
 use Rattle.std.proofs.Common.{◌≡◌, sym, ap, ◌∙◌, arith}
 use Rattle.instruments.specs.Sheets.{stations_of}
-use Rattle.syntax.specs.declared.program.Ty.TheVariants as TyRow
 use Rattle.syntax.specs.declared.program.Term.TheVariants as Row
 use Rattle.calculus.specs.Types.{num, gauges_there}
 use Rattle.calculus.specs.Checker.{typed}

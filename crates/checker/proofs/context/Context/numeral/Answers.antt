@@ -1,5 +1,4 @@
 use Rattle.std.proofs.Common.{◌≡◌, sym, ap, arith}
-use Rattle.syntax.specs.declared.program.Ty.TheVariants as TyRow
 use Rattle.syntax.specs.declared.program.Term.TheVariants as Row
 use Rattle.calculus.specs.Checker.{typed}
 use Rattle.checker.specs.Judging.{size}

@@ -1,4 +1,4 @@
-use Rattle.std.proofs.Common.{◌≡◌, length, sym, refl, ap, ◌∙◌, arith}
+use Rattle.std.proofs.Common.{◌≡◌, length, sym, ap, ◌∙◌, arith}
 use mathlib.Core.Option.{Option as Lookup}
 use native.Mathlib.Decide.{ℕ_discrete}
 use Rattle.lines.specs.declared.refusal.CheckFault.TheVariants.{Elsewhere}

@@ -1,5 +1,5 @@
-use Rattle.std.proofs.Common.{◌≡◌, ℕ, ◌-◌, ◌<◌, sym, refl, ap, arith}
-use Rattle.calculus.specs.Types.{World, bound}
+use Rattle.std.proofs.Common.{◌≡◌, ◌-◌, sym, refl, ap, arith}
+use Rattle.calculus.specs.Types.{bound}
 use Rattle.calculus.specs.Program.{level}
 use Rattle.checker.proofs.Counts.{level_in, level_out}
 use Rattle.checker.proofs.context.Context.world_at.Goals as goal
