@@ -8,7 +8,7 @@ use Rattle.calculus.specs.Limits.{lacks}
 use Rattle.calculus.specs.Run.{Ending, done, spent, at_silent, at_full, broken, Result, stop, one_more, execute, touched_by, joined, then_if, then_run, RunsJoin}
 use Rattle.calculus.specs.Calls.{Started, sheet_of, differing, answer_of, ran_to, run_unless, run_call, more_steps, run_after, then_call}
 use Rattle.calculus.specs.Law.{CallsJoin}
-use Rattle.calculus.proofs.Touched.{touched_once}
+use Rattle.calculus.proofs.Touched.{touched_in_a_row}
 use Rattle.calculus.proofs.Sheets.{sheet_stays}
 
 -- runs
@@ -80,7 +80,7 @@ runs_join P (suc n) m v M =
     ap (λ k. execute P k v M) z ∙ some_first P v M m n (λ u L. runs_join P n m u L) (Machine.is_finished M) refl
 
 -- calls
-answer_more : (k n : ℕ) (x : Ending) → answer_of x (k + n) ≡ more_steps k (answer_of x n)
+pub answer_more : (k n : ℕ) (x : Ending) → answer_of x (k + n) ≡ more_steps k (answer_of x n)
 answer_more k n done = refl
 answer_more k n spent = refl
 answer_more k n (at_silent κ s g) = refl
@@ -94,7 +94,7 @@ module _ (s : Started) (m : ℕ) where
       let q = execute P m r.works r.end in
       let k : Started = record { program = P; state = r.end; touched = touched_by r.events s.touched } in
       let a = answer_more r.steps q.steps q.ending in
-      let t = touched_once.1 r.events q.events s.touched in
+      let t = touched_in_a_row r.events q.events s.touched in
       let j : ran_to s (joined r q) ≡ run_after r.steps (ran_to k q) = λ i. record { answer = a i; place = some (record { program = P; state = q.end; touched = t i }); works = q.works } in
       j ∙ ap (λ (o : Option ℕ). run_after r.steps (run_unless o k r.works m)) (sym e)
 

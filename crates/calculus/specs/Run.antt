@@ -1,5 +1,5 @@
 -- A run under a budget, with the limits of the tables, and where a machine stands.
-use Rattle.std.specs.Prelude.{◌≡◌, ℕ, zero, suc, ◌+◌, ◌*◌, ◌<◌, ◌≤◌, Bool, true, false, cond, ◌&&◌, ◌||◌, List, [], ◌∷◌, ◌++◌, length, set, replicate, ◌==◌, ◌≢◌, slice_index_or, slice_set}
+use Rattle.std.specs.Prelude.{◌≡◌, ℕ, zero, suc, ◌+◌, ◌<◌, ◌≤◌, Bool, true, false, cond, ◌&&◌, ◌||◌, List, [], ◌∷◌, ◌++◌, length, ◌==◌, ◌≢◌}
 use Rattle.std.proofs.Math.Option.{some, none as nothing}
 use Rattle.calculus.specs.Machine
 use Rattle.calculus.specs.Types.{Ty}
@@ -78,6 +78,7 @@ then_if (at_silent κ s n) P m r = r
 then_if (at_full κ s) P m r = r
 then_if broken P m r = r
 
+-- a run, and then one with budget m, if its budget was spent
 abbrev pub then_run : Program → ℕ → Result → Result
 then_run P m r = then_if r.ending P m r
 
@@ -108,51 +109,17 @@ abbrev pub is_among : Register → List Register → Bool
 is_among r [] = false
 is_among r (q ∷ qs) = same_register r q || is_among r qs
 
--- a register that a works may have: of one of 16 sites, one of 32 gauges or 32 gates
-abbrev pub OnWorks : Register → Type 0
-OnWorks (register κ s n) = (s < 16) × (n < 32)
-
--- There is a mark for each register that a works may have, 64 a site: 32 for its gauges, then 32 for its gates.
-abbrev pub mark_of : Register → ℕ
-mark_of (register a_gauge s n) = 64 * s + n
-mark_of (register a_gate s n) = 64 * s + 32 + n
-
-abbrev pub Marks : Type 0
-Marks = List Bool
-
--- no mark is set
-unfoldable pub no_marks : Marks
-no_marks = replicate 1024 false
-
--- the mark of one register more
-abbrev pub marked : Register → Marks → Marks
-marked r ms = slice_set ms (mark_of r) true
-
--- The marks of the registers touched: those before, and those that the steps read or set.
-abbrev pub touched_by : List Event → Marks → Marks
-touched_by [] ms = ms
-touched_by (quiet ∷ es) ms = touched_by es ms
-touched_by (looked a b c ∷ es) ms = touched_by es ms
-touched_by (was_read s g c ∷ es) ms = touched_by es (marked (register a_gauge s g) ms)
-touched_by (was_set s g x c ∷ es) ms = touched_by es (marked (register a_gate s g) ms)
-
--- how many marks are set
-abbrev pub marks_set : Marks → ℕ
-marks_set [] = 0
-marks_set (true ∷ ms) = suc (marks_set ms)
-marks_set (false ∷ ms) = marks_set ms
-
 -- one register more, unless it is there
-abbrev pub listed : Register → List Register → List Register
-listed r qs = cond (is_among r qs) qs (r ∷ qs)
+abbrev pub marked : Register → List Register → List Register
+marked r qs = cond (is_among r qs) qs (r ∷ qs)
 
--- What the marks stand for: the registers touched, those before and those that the steps read or set, each once.
-abbrev pub registers_touched : List Event → List Register → List Register
-registers_touched [] qs = qs
-registers_touched (quiet ∷ es) qs = registers_touched es qs
-registers_touched (looked a b c ∷ es) qs = registers_touched es qs
-registers_touched (was_read s g c ∷ es) qs = registers_touched es (listed (register a_gauge s g) qs)
-registers_touched (was_set s g x c ∷ es) qs = registers_touched es (listed (register a_gate s g) qs)
+-- The registers touched, each once: those before, and those that the steps read or set.
+abbrev pub touched_by : List Event → List Register → List Register
+touched_by [] qs = qs
+touched_by (quiet ∷ es) qs = touched_by es qs
+touched_by (looked a b c ∷ es) qs = touched_by es qs
+touched_by (was_read s g c ∷ es) qs = touched_by es (marked (register a_gauge s g) qs)
+touched_by (was_set s g x c ∷ es) qs = touched_by es (marked (register a_gate s g) qs)
 
 -- whether a step read or set that register
 abbrev pub touches : Register → List Event → Bool
@@ -167,27 +134,10 @@ abbrev pub Distinct : List Register → Type 0
 Distinct [] = Unit {0}
 Distinct (r ∷ qs) = (is_among r qs ≡ false) × Distinct qs
 
--- each register that the steps read or set is one that a works may have
-abbrev pub Fitted : List Event → Type 0
-Fitted [] = Unit {0}
-Fitted (quiet ∷ es) = Fitted es
-Fitted (looked a b c ∷ es) = Fitted es
-Fitted (was_read s g c ∷ es) = OnWorks (register a_gauge s g) × Fitted es
-Fitted (was_set s g x c ∷ es) = OnWorks (register a_gate s g) × Fitted es
-
--- The marks after these steps: one is set exactly if a step read or set its register, and as many are set as there are registers
--- touched, each of which is listed once.
-abbrev pub MarksTell : List Event → Type 0
-MarksTell es =
-    ((r : Register) → OnWorks r → slice_index_or (touched_by es no_marks) (mark_of r) false ≡ touches r es) ×
-    (marks_set (touched_by es no_marks) ≡ length (registers_touched es [])) ×
-    ((r : Register) → is_among r (registers_touched es []) ≡ touches r es) ×
-    Distinct (registers_touched es [])
-
--- The marks tell what the steps touched, each register once; and after runs in a row they are those of all their steps.
+-- The registers touched are those before and those that a step read or set, and each is there once.
 abbrev pub TouchedOnce : Type 0
-TouchedOnce =
-    ((es : List Event) → Fitted es → MarksTell es) × ((es fs : List Event) (ms : Marks) → touched_by (es ++ fs) ms ≡ touched_by fs (touched_by es ms))
+TouchedOnce = (es : List Event) (qs : List Register) →
+    ((r : Register) → is_among r (touched_by es qs) ≡ (is_among r qs || touches r es)) × (Distinct qs → Distinct (touched_by es qs))
 
 -- how many entries a table has at all sites
 abbrev pub total : {A : Type 0} → Table A → ℕ
@@ -217,9 +167,9 @@ shown_phase Machine.abort (Machine.back u) = returning
 shown_phase (Machine.return s c) (Machine.back u) = returning
 shown_phase (Machine.push f k) (Machine.back u) = returning
 
-abbrev pub stand_of : Machine.State → Marks → Stand
-stand_of (Machine.state H w k p c) ms =
-    record { site = w; phase = shown_phase k p; frames = c.frames; kept = total H.kept; published = total H.published; touched = marks_set ms }
+abbrev pub stand_of : Machine.State → List Register → Stand
+stand_of (Machine.state H w k p c) qs =
+    record { site = w; phase = shown_phase k p; frames = c.frames; kept = total H.kept; published = total H.published; touched = length qs }
 
 -- No table holds more than it has places for.
 pub record Within (M : Machine.State) : Type 0 where

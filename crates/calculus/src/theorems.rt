@@ -2,6 +2,8 @@ ghost use Rattle.calculus.specs.Theorems.{Substitution, Progress, Stepping, Pres
 ghost use Rattle.calculus.specs.Simulation.{Simulation, RunSimulation, StartMeans, StatesStand, MachineSafety};
 ghost use Rattle.calculus.specs.Checker.{CheckDecides, JudgeRecurs, TypeRecurs};
 ghost use Rattle.calculus.specs.Run.{ExecuteCounts, NeverBroken, StaysWithin, StartsWithin, TouchedOnce, RunsJoin};
+ghost use Rattle.calculus.specs.Marks.{MarksStand};
+ghost use Rattle.calculus.specs.Marked.{MarksLaw, LineAlike, MarkedJoin};
 ghost use Rattle.calculus.specs.Law.{LogLaw, LineStands, RunSettled, CallsJoin};
 
 // A typed binding put in keeps types.
@@ -58,8 +60,8 @@ pub fn checking_decides() -> u8
     0
 }
 
-// Runs count their steps, stop for the reason that they give, stay within the limits, and mark each register touched once; and their
-// budgets add up.
+// Runs count their steps, stop for the reason that they give, stay within the limits, and mark each register touched once; their
+// budgets add up, and marks tell what they touched.
 pub fn runs_stand() -> u8
     ensures counts { ExecuteCounts }
     ensures whole { NeverBroken }
@@ -67,6 +69,7 @@ pub fn runs_stand() -> u8
     ensures start { StartsWithin }
     ensures touched { TouchedOnce }
     ensures joins { RunsJoin }
+    ensures marks { MarksStand }
 {
     0
 }
@@ -77,6 +80,16 @@ pub fn law_stands() -> u8
     ensures line { LineStands }
     ensures settled { RunSettled }
     ensures joins { CallsJoin }
+{
+    0
+}
+
+// A machine that holds marks says and does, line by line, what the one that holds the list of registers touched says and does; and its
+// budgets add up.
+pub fn marks_stand() -> u8
+    ensures law { MarksLaw }
+    ensures line { LineAlike }
+    ensures joins { MarkedJoin }
 {
     0
 }

@@ -71,7 +71,7 @@ fn registers_that_do_not_answer(rt: HostRuntime) -> Result<(), Fail> {
     assert_eq!(rt; refusal(image.gate(1, 0)), (41, 1));
     assert_eq!(rt; refusal(image.set_gate(1, 0, 9)), (41, 1));
     assert_eq!(rt; refusal(image.set_gate(1, 1, 9)), (40, 1));
-    assert!(rt; image.bytes() == &bytes);
+    assert!(rt; image.bytes() == bytes.as_slice());
     Ok(())
 }
 
@@ -82,7 +82,7 @@ fn a_set_gate_is_two_bytes(rt: HostRuntime) -> Result<(), Fail> {
     assert_eq!(rt; number(confirm(&mut image, 1, 0, 1204))?, 1204);
     bytes[216] = 4;
     bytes[217] = 180;
-    assert!(rt; image.bytes() == &bytes);
+    assert!(rt; image.bytes() == bytes.as_slice());
     Ok(())
 }
 

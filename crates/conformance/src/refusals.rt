@@ -31,7 +31,7 @@ fn exact(rt: HostRuntime) -> Result<(), Fail> {
         Ok(length) => assert_eq!(rt; length, 17),
         Err(_) => return Err(Fail::new("refused")),
     }
-    assert!(rt; &out[0..17] == b"(refused 42 139)\n");
+    assert!(rt; &out[0..17] == b"(refused 42 139)\n".as_slice());
     Ok(())
 }
 
@@ -42,6 +42,6 @@ fn a_byte_short(rt: HostRuntime) -> Result<(), Fail> {
         Ok(_) => return Err(Fail::new("written")),
         Err(refusal) => assert_eq!(rt; refusal.code(), (34, 0)),
     }
-    assert!(rt; &out[0..16] == &[7u8; 16]);
+    assert!(rt; &out[0..16] == [7u8; 16].as_slice());
     Ok(())
 }

@@ -220,10 +220,10 @@ fn a_refused_text_leaves_the_place(rt: HostRuntime) -> Result<(), Fail> {
     assert!(rt; text.read(b"(station 1 0)\n(run 0 (num 1))\n").is_ok());
     assert!(rt; text.read(b"(station 1 0)\n(run 0 (num 2)").is_err());
     assert!(rt; text.write(&mut out).is_ok());
-    assert!(rt; &out[0..30] == b"(station 1 0)\n(run 0 (num 1))\n");
+    assert!(rt; &out[0..30] == b"(station 1 0)\n(run 0 (num 1))\n".as_slice());
     let mut short = [7u8; 29];
     assert_eq!(rt; refusal(text.write(&mut short)), (34, 0));
-    assert!(rt; &short[0..29] == &[7u8; 29]);
+    assert!(rt; &short[0..29] == [7u8; 29].as_slice());
     Ok(())
 }
 

@@ -1,4 +1,4 @@
 use Rattle.conformance.proofs.texts.+put_tree.Given as goal
 
-abbrev pub decreases-put-tree : goal.decreases-put-tree
-decreases-put-tree l = l.depth
+abbrev pub decreases-put_tree : goal.decreases-put_tree
+decreases-put_tree l = l.depth
