@@ -1,3 +1,4 @@
+-- Lemmas: what a recorded sheet shows.
 use Rattle.std.specs.Prelude.{◌≡◌, ℕ, ◌+◌, ◌<◌, ◌≤◌, List, [], map, length, drop, Some, None, Err, Option, ◌≢◌, slice_index_or}
 use Rattle.std.proofs.Common.{◌∙◌, arith, eq-eqb, ne_eqb, ⊎_elim}
 use Rattle.std.specs.List.{range_with_len}

@@ -1,3 +1,4 @@
+-- Lemmas: registers and sites that a function of their number gives.
 use Rattle.std.specs.Prelude.{◌≡◌, ℕ, ◌<◌, ◌≤◌, List, [], map, length, None, Err, Option, ◌≢◌, slice_set}
 use Rattle.std.proofs.Common.{sym, ◌∙◌, ⊎_elim, arith}
 use Rattle.std.specs.List.{range_with_len}

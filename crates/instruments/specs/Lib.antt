@@ -16,8 +16,9 @@ pub mod Accepted
 pub mod Made
 -- the text of a survey
 pub mod Surveys
+-- lemmas by which the implementations answer the laws of gauges and works; they define nothing
+pub mod Rows
+pub mod Indexed
+pub mod Grid
 pub mod Fewness
 pub mod ShowsLemmas
-pub mod Indexed
-pub mod Rows
-pub mod Grid

@@ -1,3 +1,4 @@
+-- Lemmas: rows of registers, as they are asked and set.
 use Rattle.std.specs.Prelude.{◌≡◌, ℕ, ◌+◌, ◌<◌, ◌≤◌, List, [], map, length, take, set, None, Err, Option, slice_index_or, slice_set}
 use Rattle.std.proofs.Common.{sym, ap, ◌∙◌, lt-ltb, le-ltb}
 use Rattle.std.proofs.Math.Seq.{take-set-lt}
