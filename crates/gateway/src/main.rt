@@ -7,6 +7,7 @@ use checker::checking::check;
 use checker::scopes::ScopeList;
 use lines::refusal::Refusal;
 use std::io::{Read, Write};
+use std::process::ExitCode;
 use syntax::text::Text;
 
 // Every line that is printed goes through a buffer of this many bytes.
@@ -59,10 +60,12 @@ fn run(rt: &HostRuntime) -> anyhow::Result<()> {
     print(rt, out.as_mut_slice(), written)
 }
 
-fn main(rt: HostRuntime) -> anyhow::Result<()> {
-    let done = run(&rt);
-    if let Err(error) = &done {
-        eprintln!(rt; "gateway: {error}")?;
+fn main(rt: HostRuntime) -> ExitCode {
+    match run(&rt) {
+        Ok(()) => ExitCode::SUCCESS,
+        Err(error) => {
+            let _ = eprintln!(rt; "gateway: {error}");
+            ExitCode::FAILURE
+        }
     }
-    done
 }

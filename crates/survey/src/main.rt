@@ -8,6 +8,7 @@ use instruments::survey::survey;
 use lines::refusal::Refusal;
 use std::fs;
 use std::io::Write;
+use std::process::ExitCode;
 
 // The longest survey has 512 lines of 20 bytes.
 const ROOM: usize = 16384;
@@ -34,10 +35,12 @@ fn run(rt: &HostRuntime) -> anyhow::Result<()> {
     print(rt, out.as_slice(), written)
 }
 
-fn main(rt: HostRuntime) -> anyhow::Result<()> {
-    let done = run(&rt);
-    if let Err(error) = &done {
-        eprintln!(rt; "survey: works.img: {error}")?;
+fn main(rt: HostRuntime) -> ExitCode {
+    match run(&rt) {
+        Ok(()) => ExitCode::SUCCESS,
+        Err(error) => {
+            let _ = eprintln!(rt; "survey: works.img: {error}");
+            ExitCode::FAILURE
+        }
     }
-    done
 }
