@@ -1,14 +1,10 @@
 -- The rules that add cells.
-use Rattle.std.proofs.Common.{◌≡◌, ℕ, zero, suc, ◌+◌, ◌<◌, ◌≤◌, true, List, [], ◌∷◌, ◌++◌, map, length, get_or, take, set, vec_items, vec_len, vec_capacity, sym, refl, ap, ◌∙◌, subst, arith}
-use mathlib.Core.Option.{some, none as nothing, none-ne-some}
-use lib.ListN.{get_elem?}
-use lib.Seq.{map-set}
+use Rattle.std.proofs.Common.{◌≡◌, ℕ, suc, ◌+◌, ◌<◌, ◌≤◌, true, List, [], ◌∷◌, ◌++◌, map, length, take, vec_items, sym, refl, ap, ◌∙◌, subst, arith}
 use Rattle.calculus.specs.Machine
-use Rattle.calculus.specs.Tables.{count, add}
-use Rattle.machine.specs.Meaning.{Meaning, blank, environment_of, value_of, bound_of, cell_of, meanings, task_of, continuation_of, chains, phase_of, published_of, kept_of, cells_of, chains_of, sites_of, places_of, state_of}
-use Rattle.machine.specs.Sound.{pair_at, is_pair, EnvironmentIn, ValueIn, BoundIn, ContinuationIn, CellIn, TaskIn, FrameIn, PhaseIn, Each, RowIn, StoreIn, StateIn}
+use Rattle.machine.specs.Meaning.{environment_of, value_of, bound_of, meanings, continuation_of, chains, phase_of, published_of, kept_of, cells_of, sites_of, places_of, state_of}
+use Rattle.machine.specs.Sound.{pair_at, EnvironmentIn, ValueIn, BoundIn, ContinuationIn, StateIn}
 use Rattle.machine.specs.Answers.{scope, over, held}
-use Rattle.machine.specs.Store.{with_row, CellPushed, RowSet, RowPublished, RowKept}
+use Rattle.machine.specs.Store.{CellPushed}
 use Rattle.machine.specs.declared.parts.Environment.{Environment}
 use Rattle.machine.specs.declared.parts.Environment.TheVariants as Env
 use Rattle.machine.specs.declared.parts.Value.{Value}
@@ -18,10 +14,8 @@ use Rattle.machine.specs.declared.parts.Bound.TheVariants as Bind
 use Rattle.machine.specs.declared.parts.Cell.{Cell}
 use Rattle.machine.specs.declared.parts.Cell.TheVariants as Holds
 use Rattle.machine.specs.declared.parts.Continuation.{Continuation}
-use Rattle.machine.specs.declared.parts.Continuation.TheVariants as Cont
 use Rattle.machine.specs.declared.parts.Phase.{Phase}
 use Rattle.machine.specs.declared.parts.Phase.TheVariants as Now
-use Rattle.machine.specs.declared.parts.SiteRow.{SiteRow}
 use Rattle.machine.specs.declared.parts.Store.{Store}
 use Rattle.machine.specs.declared.parts.State.{State}
 use Rattle.machine.proofs.Cells.{Grown, grown}

@@ -1,15 +1,13 @@
 -- A new cell: what holds stays, and all that there was means the same.
-use Rattle.std.proofs.Common.{◌≡◌, ℕ, zero, suc, ◌+◌, ◌<◌, ◌≤◌, List, [], ◌∷◌, ◌++◌, map, length, get_or, take, vec_items, vec_len, vec_capacity, Vec, sym, refl, ap, ◌∙◌, subst, arith}
+use Rattle.std.proofs.Common.{◌≡◌, ℕ, suc, ◌+◌, ◌≤◌, List, [], ◌∷◌, ◌++◌, map, length, get_or, vec_items, vec_capacity, Vec, sym, refl, ap, ◌∙◌, subst, arith}
 use Rattle.std.specs.declared.alloc.Global.{Global}
-use Rattle.calculus.specs.Machine
-use Rattle.machine.specs.Meaning.{Meaning, blank, cell_of, meanings, value_of, chains, published_of, kept_of}
-use Rattle.machine.specs.Sound.{EnvironmentIn, ValueIn, ContinuationIn, CellIn, TaskIn, FrameIn, Each, RowIn, StoreIn, StateIn}
+use Rattle.machine.specs.Meaning.{Meaning, blank, cell_of, meanings, value_of, chains, published_of}
+use Rattle.machine.specs.Sound.{CellIn, FrameIn, Each, RowIn, StoreIn}
 use Rattle.machine.specs.Store.{with_cells, CellPushed}
 use Rattle.machine.proofs.Growth.{default_here, each_push, map_same}
 use Rattle.machine.proofs.Stays.{value_up, cell_up, task_up, value_stays, meanings_push, meanings_length, chains_stay}
 use Rattle.machine.proofs.Frames.{length_push}
 use Rattle.machine.specs.declared.parts.Cell.{Cell}
-use Rattle.machine.specs.declared.parts.Frame.{Frame}
 use Rattle.machine.specs.declared.parts.SiteRow.{SiteRow}
 use Rattle.machine.specs.declared.parts.Store.{Store}
 

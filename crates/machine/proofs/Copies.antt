@@ -1,10 +1,12 @@
 -- What an accepted program gives a machine that starts it.
-use Rattle.std.proofs.Common.{◌≡◌, ℕ, zero, suc, ◌+◌, ◌<◌, ◌≤◌, Bool, true, false, cond, List, [], ◌∷◌, length, get_or, Ok, Err, Result, sym, refl, ap, ◌∙◌, subst, arith}
-use mathlib.Core.Option.{Option, some, none as nothing}
+use Rattle.std.proofs.Common.{◌≡◌, ℕ, zero, suc, ◌+◌, ◌<◌, ◌≤◌, Bool, true, false, List, [], ◌∷◌, length, take, length-take, get_or, Ok, Err, sym, refl, ap, ◌∙◌, subst, arith}
+use mathlib.Core.Option.{Option, some}
 use mathlib.Core.Logic.{∥∥₁_elim}
 use Rattle.lines.specs.declared.refusal.Refusal.{Refusal}
 use Rattle.lines.specs.declared.refusal.Refusal.TheVariants.{Nothing}
 use Rattle.instruments.specs.declared.sheet.Station.{Station}
+use Rattle.instruments.specs.Fitted.{Fitted}
+use Rattle.calculus.specs.Types.{gauges_there, gates_there}
 use Rattle.syntax.specs.Sound.{TySound, TermSound}
 use Rattle.syntax.specs.Tests.{sound_test}
 use Rattle.syntax.proofs.Tests.{Tested, test_says}
@@ -14,10 +16,10 @@ use Rattle.syntax.specs.declared.program.Term.{Term as TermRow}
 use Rattle.syntax.specs.declared.program.Term.TheVariants as Row
 use Rattle.calculus.specs.Types.{Ty}
 use Rattle.calculus.specs.Machine
-use Rattle.calculus.specs.Program.{Program, Above, AboveType, Sorted, Ordered, WellTyped}
+use Rattle.calculus.specs.Program.{Program, Above, Sorted, Ordered, WellTyped}
 use Rattle.calculus.specs.Checker.{typed, check, Verdict}
-use Rattle.calculus.specs.Run.{Marks}
-use Rattle.calculus.specs.Calls.{Started, start_of}
+use Rattle.calculus.specs.Marked.{Marked, start_marked, OnLimits}
+use Rattle.calculus.proofs.Marked.{marks_law}
 use Rattle.calculus.proofs.Checking.{check_decides}
 use Rattle.calculus.proofs.Effects.{agrees_after}
 use Rattle.calculus.proofs.Simulation.{simulation}
@@ -32,7 +34,7 @@ use Rattle.machine.specs.Answers.{of_terms}
 use Rattle.machine.specs.Meaning.{state_of}
 use Rattle.machine.specs.Sound.{StateIn}
 use Rattle.machine.specs.Safe.{Holds, Kept}
-use Rattle.machine.specs.Calls.{start_answered, started_into, LawOf}
+use Rattle.machine.specs.Calls.{start_answered, started_into, LawOf, MarksLawOf}
 use Rattle.machine.proofs.Props.{holds_prop, state_prop}
 use Rattle.machine.proofs.Typed.{started_holds}
 use Rattle.machine.specs.declared.parts.State.{State}
@@ -82,6 +84,16 @@ well_typed P A e = (subst (Verdict (WellTyped P)) e (check_decides P)).0
 pub copy_holds : (P : Program) (A : Ty) (s : State) → sound_test P.types P.terms P.sheet ≡ true → check P ≡ typed A → StateIn s → s.stations ≡ length P.sheet → state_of s ≡ Machine.started P → Holds (of_terms P.terms) P.sheet s
 copy_holds P A s sound e h n m = let o = ordered P sound in started_holds P A s (states_stand P A o) (simulation P o) agrees_after (well_typed P A e) h n m
 
+-- a sheet is within the limits, site by site
+few_there : (n : ℕ) (xs : List Station) → Fitted xs → (s : ℕ) → (gauges_there (take n xs) s ≤ 32) × (gates_there (take n xs) s ≤ 32)
+few_there zero xs f s = (omega arith, omega arith)
+few_there (suc n) [] f s = (omega arith, omega arith)
+few_there (suc n) (x ∷ xs) f zero = f 0 x (omega arith)
+few_there (suc n) (x ∷ xs) f (suc s) = few_there n xs (λ k d h. f (suc k) d (omega arith)) s
+
+pub on_limits : (n : ℕ) (xs : List Station) → n ≤ 16 → Fitted xs → OnLimits (take n xs)
+on_limits n xs h f = (omega (arith, length-take n xs), few_there n xs f)
+
 -- the tables that were copied, and what is started from them
 module _ (types : List TypeRow) (terms : List TermRow) (stations : List Station) (start : ℕ) where
   abbrev pub copied : Program
@@ -101,16 +113,16 @@ module _ (types : List TypeRow) (terms : List TermRow) (stations : List Station)
       subst (λ (p : Program). Holds (of_terms p.terms) p.sheet s) (sym e) (copy_holds P A s k.0 k.1 h (n ∙ ap (λ (p : Program). length p.sheet) e) (m ∙ ap Machine.started e))
 
   -- what a start answers and leaves
-  pub start_tells : (Q : Place) → Views Q types terms start → Carries Q → Ok stations ≡ place_stations Q → (p : Option Started) → (Ok tt ≡ start_answered Q) × (some (start_of copied) ≡ started_into p Q) × LawOf Q
-  start_tells empty w k q p = absurd w
-  start_tells (full P A) w k q p = (refl, ap (λ (x : Program). some (start_of x)) (is_copy P A w q), log_law P A (ordered P k.0) k.1)
+  pub start_tells : OnLimits stations → (Q : Place) → Views Q types terms start → Carries Q → Ok stations ≡ place_stations Q → (p : Option Marked) → (Ok tt ≡ start_answered Q) × (some (start_marked copied) ≡ started_into p Q) × LawOf Q × MarksLawOf Q
+  start_tells few empty w k q p = absurd w
+  start_tells few (full P A) w k q p = (refl, ap (λ (x : Program). some (start_marked x)) (is_copy P A w q), log_law P A (ordered P k.0) k.1, marks_law P (subst (λ (p : Program). OnLimits p.sheet) (is_copy P A w q) few))
 
-pub start_nothing : (Q : Place) (p : Option Started) → Q ≡ empty → (Err Nothing ≡ start_answered Q) × (p ≡ started_into p Q) × LawOf Q
-start_nothing empty p e = (refl, refl, tt)
+pub start_nothing : (Q : Place) (p : Option Marked) → Q ≡ empty → (Err Nothing ≡ start_answered Q) × (p ≡ started_into p Q) × LawOf Q × MarksLawOf Q
+start_nothing empty p e = (refl, refl, tt, tt)
 start_nothing (full P A) p e = absurd (let z : ◌≡◌ {A = ℕ} 0 1 = cc in omega arith)
 
-pub start_refused : (Q : Place) (p : Option Started) (e : Refusal) → Err e ≡ place_stations Q → (Err e ≡ start_answered Q) × (p ≡ started_into p Q) × LawOf Q
-start_refused empty p e q = (cc, refl, tt)
+pub start_refused : (Q : Place) (p : Option Marked) (e : Refusal) → Err e ≡ place_stations Q → (Err e ≡ start_answered Q) × (p ≡ started_into p Q) × LawOf Q × MarksLawOf Q
+start_refused empty p e q = (cc, refl, tt, tt)
 start_refused (full P A) p e q = absurd (let z : ◌≡◌ {A = ℕ} 0 1 = cc in omega arith)
 
 -- what a place carries comes out again

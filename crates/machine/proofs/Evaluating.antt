@@ -1,11 +1,11 @@
 -- The answers of the rules that look up a world, a continuation or a gauge, once it is found.
-use Rattle.std.proofs.Common.{◌≡◌, ℕ, ◌+◌, ◌<◌, ◌≤◌, List, [], ◌∷◌, Some, None, Ok, Err, Option as Maybe, Result, sym, refl, ap, ◌∙◌, subst, arith}
+use Rattle.std.proofs.Common.{◌≡◌, ℕ, Some, None, Ok, Err, Option as Maybe, Result, sym, refl, ap, ◌∙◌, subst, arith}
 use mathlib.Core.Option.{Option, some, none as nothing}
 use Rattle.machine.specs.Answers.{unanswered}
 use Rattle.lines.specs.declared.refusal.Unanswered.{Unanswered}
 use Rattle.lines.specs.declared.refusal.Instrument.{Instrument as Coded}
 use Rattle.lines.specs.declared.refusal.RegisterFault.{RegisterFault}
-use Rattle.lines.specs.declared.refusal.RegisterFault.TheVariants.{NotFitted, Silent}
+use Rattle.lines.specs.declared.refusal.RegisterFault.TheVariants.{Silent}
 use Rattle.syntax.specs.declared.program.Mobile.{Mobile}
 use Rattle.syntax.specs.declared.program.Mobile.TheVariants.{Code, Address, Number}
 use Rattle.syntax.specs.declared.program.World.{World}
@@ -15,8 +15,8 @@ use Rattle.calculus.specs.Machine
 use Rattle.calculus.specs.Step.{Works, quiet}
 use Rattle.calculus.specs.Tables.{entry, count}
 use Rattle.calculus.specs.Limits.{lacking, takes, get_rule, no_place, a_kept}
-use Rattle.machine.specs.Meaning.{state_of, sites_of, places_of, phase_of, cells_of}
-use Rattle.machine.specs.Answers.{Goes, Ends, Lands, Met, Answer, answered, scope, over, evaluated, getting, leaving, resuming, gauged}
+use Rattle.machine.specs.Meaning.{state_of, sites_of, places_of}
+use Rattle.machine.specs.Answers.{Lands, Met, answered, scope, over, evaluated, getting, leaving, resuming, gauged}
 use Rattle.machine.proofs.Asks.{told, asked_told, shown_told}
 use Rattle.machine.specs.declared.parts.Environment.{Environment}
 use Rattle.machine.specs.declared.parts.Phase.TheVariants as Now

@@ -1,9 +1,9 @@
 -- A new frame: what holds stays, and the state has that frame on top.
-use Rattle.std.proofs.Common.{◌≡◌, ℕ, zero, suc, ◌+◌, ◌<◌, ◌≤◌, List, [], ◌∷◌, ◌++◌, map, length, get_or, take, vec_items, vec_len, vec_capacity, Vec, sym, refl, ap, ◌∙◌, subst, arith}
+use Rattle.std.proofs.Common.{◌≡◌, ℕ, suc, ◌+◌, ◌≤◌, List, [], ◌∷◌, ◌++◌, map, length, get_or, take, vec_items, vec_capacity, Vec, sym, refl, ap, ◌∙◌, subst, arith}
 use Rattle.std.specs.declared.alloc.Global.{Global}
 use Rattle.calculus.specs.Machine
-use Rattle.machine.specs.Meaning.{Meaning, environment_of, task_of, continuation_of, frame_of, chains, published_of, kept_of, cells_of, chains_of, sites_of, places_of, state_of}
-use Rattle.machine.specs.Sound.{EnvironmentIn, ValueIn, ContinuationIn, TaskIn, FrameIn, Each, RowIn, StoreIn, StateIn}
+use Rattle.machine.specs.Meaning.{task_of, continuation_of, frame_of, chains, kept_of, cells_of, chains_of, sites_of, places_of, state_of}
+use Rattle.machine.specs.Sound.{EnvironmentIn, ContinuationIn, TaskIn, FrameIn, Each, RowIn, StoreIn, StateIn}
 use Rattle.machine.specs.Answers.{scope, over}
 use Rattle.machine.specs.Store.{with_frames, FramePushed}
 use Rattle.machine.proofs.Growth.{default_here, each_push, map_same}

@@ -1,8 +1,8 @@
 -- Empty tables are sound.
-use Rattle.std.proofs.Common.{◌≡◌, ℕ, zero, suc, ◌+◌, ◌<◌, ◌≤◌, ◌⊎◌, List, [], ◌∷◌, map, length, take, set, vec_items, vec_len, vec_capacity, sym, refl, ap, ◌∙◌, subst, inl, inr, ⊎_elim, arith}
+use Rattle.std.proofs.Common.{◌≡◌, ℕ, zero, suc, ◌+◌, ◌<◌, ◌≤◌, ◌⊎◌, List, [], ◌∷◌, map, length, take, set, vec_items, vec_capacity, sym, refl, ap, ◌∙◌, subst, inl, inr, ⊎_elim, arith}
 use mathlib.Core.Option.{some, none-ne-some}
 use lib.ListN.{get_elem?}
-use Rattle.machine.specs.Sound.{Each, CellIn, FrameIn, ValueIn, ContinuationIn, RowIn, StoreIn}
+use Rattle.machine.specs.Sound.{Each, CellIn, FrameIn, ValueIn, ContinuationIn, RowIn}
 use Rattle.calculus.specs.Types.{Sheet}
 use Rattle.calculus.specs.Tables.{empty_table}
 use Rattle.calculus.specs.Machine

@@ -1,6 +1,6 @@
 -- Tables that only grow at their end.
 use Rattle.std.proofs.Common.{◌≡◌, ℕ, zero, suc, ◌+◌, ◌<◌, ◌≤◌, List, [], ◌∷◌, ◌++◌, map, length, get_or, sym, refl, ap, ◌∙◌, subst, append_assoc, append-nil, add-zero, zero-add, arith, length-append}
-use mathlib.Core.Option.{Option, some, none as nothing, none-ne-some}
+use mathlib.Core.Option.{some, none as nothing, none-ne-some}
 use lib.ListN.{get_elem?}
 use Rattle.machine.specs.Grow.{grow}
 use Rattle.machine.specs.Sound.{Each}

@@ -1,35 +1,22 @@
 -- The rules that only look something up.
-use Rattle.std.proofs.Common.{◌≡◌, ℕ, zero, suc, ◌+◌, ◌<◌, ◌≤◌, Bool, true, false, List, [], ◌∷◌, ◌++◌, map, length, get_or, take, set, Some, None, vec_items, vec_len, vec_capacity, Option as Maybe, sym, refl, ap, ◌∙◌, subst, arith}
+use Rattle.std.proofs.Common.{◌≡◌, ℕ, zero, suc, ◌<◌, true, List, [], ◌∷◌, map, length, get_or, take, vec_items, sym, refl, ap, ◌∙◌, arith}
 use mathlib.Core.Option.{some, none as nothing, none-ne-some}
 use lib.ListN.{get_elem?}
-use lib.Seq.{map-set}
 use Rattle.calculus.specs.Machine
-use Rattle.calculus.specs.Tables.{count, add}
-use Rattle.machine.specs.Meaning.{Meaning, blank, environment_of, value_of, bound_of, cell_of, meanings, task_of, continuation_of, chains, phase_of, published_of, kept_of, cells_of, chains_of, sites_of, places_of, state_of}
-use Rattle.machine.specs.Sound.{pair_at, is_pair, EnvironmentIn, ValueIn, BoundIn, ContinuationIn, CellIn, TaskIn, FrameIn, PhaseIn, Each, RowIn, StoreIn, StateIn}
-use Rattle.machine.specs.Answers.{scope, over, held}
-use Rattle.machine.specs.Store.{with_row, CellPushed, RowSet, RowPublished, RowKept}
-use Rattle.machine.specs.declared.parts.Environment.{Environment}
-use Rattle.machine.specs.declared.parts.Environment.TheVariants as Env
+use Rattle.machine.specs.Meaning.{value_of, continuation_of, phase_of, published_of, kept_of, cells_of, chains_of, sites_of, places_of, state_of}
+use Rattle.machine.specs.Sound.{ContinuationIn, PhaseIn, StateIn}
+use Rattle.machine.specs.Answers.{over, held}
 use Rattle.machine.specs.declared.parts.Value.{Value}
-use Rattle.machine.specs.declared.parts.Value.TheVariants as Val
-use Rattle.machine.specs.declared.parts.Bound.{Bound}
-use Rattle.machine.specs.declared.parts.Bound.TheVariants as Bind
-use Rattle.machine.specs.declared.parts.Cell.{Cell}
-use Rattle.machine.specs.declared.parts.Cell.TheVariants as Holds
 use Rattle.machine.specs.declared.parts.Continuation.{Continuation}
-use Rattle.machine.specs.declared.parts.Continuation.TheVariants as Cont
 use Rattle.machine.specs.declared.parts.Phase.{Phase}
-use Rattle.machine.specs.declared.parts.Phase.TheVariants as Now
 use Rattle.machine.specs.declared.parts.SiteRow.{SiteRow}
-use Rattle.machine.specs.declared.parts.Store.{Store}
 use Rattle.machine.specs.declared.parts.State.{State}
 use mathlib.Core.Option.{Option}
 use Rattle.calculus.specs.Tables.{entry}
-use Rattle.calculus.specs.Step.{Works, Event, quiet, looked}
+use Rattle.calculus.specs.Step.{Works, Event, quiet}
 use Rattle.calculus.specs.Limits.{lacking, no_place}
-use Rattle.machine.specs.Answers.{Answer, went, full, met, broken, answered, Goes, Lands, is_some, going, resuming, valued}
-use Rattle.machine.specs.Lookups.{Sought, a_value, a_world, a_continuation}
+use Rattle.machine.specs.Answers.{answered, Goes, is_some, going, resuming}
+use Rattle.machine.specs.Lookups.{a_value}
 use Rattle.machine.proofs.Room.{site_row, map_elem, fits_none}
 
 -- a works that shows nothing

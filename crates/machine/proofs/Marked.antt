@@ -4,7 +4,7 @@ use lib.Bits.{bit_or, or_step, or_zero_r}
 use lib.Count.{ones, ones_step}
 use Rattle.std.proofs.lemmas.List.{set-append_left, set-append_right}
 use Rattle.std.proofs.lemmas.Nat.{one_shl}
-use Rattle.calculus.specs.Run.{Marks, no_marks, marks_set}
+use Rattle.calculus.specs.Marks.{Marks, no_marks, marks_set}
 use Rattle.machine.specs.Marks.{low_bits, bits_of}
 
 length_low_bits : (k n : ℕ) → length (low_bits k n) ≡ k

@@ -1,5 +1,5 @@
 -- What holds of a machine holds in one way, so it comes out of its truncation again.
-use Rattle.std.proofs.Common.{◌≡◌, ℕ, zero, suc, ◌<◌, ◌≤◌, Bool, true, false, List, length}
+use Rattle.std.proofs.Common.{ℕ, zero, suc, List, length}
 use mathlib.Core.Bool.{Bool-set}
 use mathlib.Core.HLevel.{⊥_prop, Unit-prop, Π_prop, ×_prop}
 use mathlib.Core.Logic.{∥∥₁_elim}
@@ -12,7 +12,7 @@ use Rattle.calculus.specs.Step.{Works}
 use Rattle.calculus.specs.NetworkTyping.{Agrees}
 use Rattle.machine.specs.Meaning.{state_of}
 use Rattle.machine.specs.Sound.{EnvironmentIn, ValueIn, BoundIn, CellIn, ContinuationIn, TaskIn, FrameIn, PhaseIn, Each, RowIn, StoreIn, StateIn}
-use Rattle.machine.specs.Safe.{Onward, SafeFor, Safe, Holds}
+use Rattle.machine.specs.Safe.{Onward, SafeFor, Holds}
 use Rattle.machine.specs.declared.parts.Environment.{Environment}
 use Rattle.machine.specs.declared.parts.Environment.TheVariants as Env
 use Rattle.machine.specs.declared.parts.Value.{Value}
@@ -25,7 +25,6 @@ use Rattle.machine.specs.declared.parts.Continuation.{Continuation}
 use Rattle.machine.specs.declared.parts.Continuation.TheVariants as Cont
 use Rattle.machine.specs.declared.parts.Task.{Task}
 use Rattle.machine.specs.declared.parts.Task.TheVariants as Does
-use Rattle.machine.specs.declared.parts.Frame.{Frame}
 use Rattle.machine.specs.declared.parts.Phase.{Phase}
 use Rattle.machine.specs.declared.parts.Phase.TheVariants as Now
 use Rattle.machine.specs.declared.parts.SiteRow.{SiteRow}

@@ -1,17 +1,16 @@
 -- The room that a rule asks for, and how a rule ends.
-use Rattle.std.proofs.Common.{◌≡◌, ℕ, zero, suc, ◌+◌, ◌<◌, ◌≤◌, Bool, true, false, cond, ltb, List, [], ◌∷◌, ◌++◌, map, length, get_or, take, Ok, Err, vec_items, sym, refl, ap, ◌∙◌, subst, arith, le-ltb, lt-ltb}
+use Rattle.std.proofs.Common.{◌≡◌, ℕ, zero, suc, ◌+◌, ◌<◌, ◌≤◌, cond, ltb, List, [], ◌∷◌, map, length, get_or, take, Ok, Err, vec_items, sym, refl, ap, ◌∙◌, subst, arith, le-ltb, lt-ltb}
 use mathlib.Core.Option.{Option, some, none as nothing, none-ne-some}
 use lib.ListN.{get_elem?}
 use Rattle.calculus.specs.Machine
 use Rattle.calculus.specs.Step.{Works, Event}
-use Rattle.calculus.specs.Limits.{Taken, lacking, room, a_frame, a_binding, two_bindings, a_pair, a_published, a_kept, a_binding_and_kept, no_place}
+use Rattle.calculus.specs.Limits.{Taken, lacking, a_frame, a_binding, two_bindings, a_pair, a_published, a_kept, a_binding_and_kept, no_place}
 use Rattle.machine.specs.Store.{published_in, kept_in, published_count, kept_count}
 use Rattle.calculus.specs.Tables.{count}
 use Rattle.machine.specs.Meaning.{state_of, cells_of, chains_of, sites_of, places_of, published_of, kept_of, value_of, continuation_of, phase_of}
-use Rattle.machine.specs.Sound.{StateIn, StoreIn, RowIn}
-use Rattle.lines.specs.Refusals.{table_kind}
-use Rattle.machine.specs.Answers.{Ends, answered, went, full}
-use Rattle.machine.proofs.Growth.{elem_getD, elem_default}
+use Rattle.machine.specs.Sound.{StateIn}
+use Rattle.machine.specs.Answers.{Ends, answered, went, kind}
+use Rattle.machine.proofs.Growth.{elem_default}
 use Rattle.machine.specs.declared.parts.State.{State}
 use Rattle.machine.specs.declared.parts.SiteRow.{SiteRow}
 use Rattle.lines.specs.declared.refusal.StepFault.{StepFault}
@@ -112,7 +111,7 @@ pub ends_ok : (s t : State) (v u : Works) (L : Machine.State) (e : Event) (l : O
 ends_ok s t v u L e l h n none q = (h, n, ap (answered (Machine.stepped L u e)) none ∙ ap (λ M. went M u) (sym q))
 
 -- a rule that lacks them
-pub ends_full : (s : State) (v u : Works) (L : Machine.State) (e : Event) (l : Option ℕ) (f : StepFault) (k : Table) → f ≡ Full k → l ≡ some (table_kind k) → Ends {U = Unit {0}} (Err f) s s v v (answered (Machine.stepped L u e) l)
+pub ends_full : (s : State) (v u : Works) (L : Machine.State) (e : Event) (l : Option ℕ) (f : StepFault) (k : Table) → f ≡ Full k → l ≡ some (kind k) → Ends {U = Unit {0}} (Err f) s s v v (answered (Machine.stepped L u e) l)
 ends_full s v u L e l f k fe le = subst (λ x. Ends {U = Unit {0}} (Err x) s s v v (answered (Machine.stepped L u e) l)) (sym fe) (refl, refl, ap (answered (Machine.stepped L u e)) le)
 
 -- the room tests of the site where work stands

@@ -1,34 +1,31 @@
 -- A row of the sites that is set: what holds stays, and the state has that row.
-use Rattle.std.proofs.Common.{◌≡◌, ℕ, zero, suc, ◌+◌, ◌<◌, ◌≤◌, true, List, [], ◌∷◌, ◌++◌, map, length, get_or, take, set, vec_items, vec_len, vec_capacity, sym, refl, ap, ◌∙◌, subst, arith}
-use mathlib.Core.Option.{some, none as nothing, none-ne-some}
+use Rattle.std.proofs.Common.{◌≡◌, ℕ, zero, suc, ◌+◌, ◌<◌, ◌≤◌, List, [], ◌∷◌, ◌++◌, map, length, take, set, vec_items, sym, refl, ap, ◌∙◌, subst, arith}
+use mathlib.Core.Option.{some, none-ne-some}
 use lib.ListN.{get_elem?}
 use lib.Seq.{map-set}
 use Rattle.calculus.specs.Machine
 use Rattle.calculus.specs.Tables.{count, add}
-use Rattle.machine.specs.Meaning.{Meaning, blank, environment_of, value_of, bound_of, cell_of, meanings, task_of, continuation_of, chains, phase_of, published_of, kept_of, cells_of, chains_of, sites_of, places_of, state_of}
-use Rattle.machine.specs.Sound.{pair_at, is_pair, EnvironmentIn, ValueIn, BoundIn, ContinuationIn, CellIn, TaskIn, FrameIn, PhaseIn, Each, RowIn, StoreIn, StateIn}
+use Rattle.machine.specs.Meaning.{environment_of, value_of, meanings, continuation_of, chains, published_of, kept_of, cells_of, chains_of, sites_of, places_of, state_of}
+use Rattle.machine.specs.Sound.{EnvironmentIn, ValueIn, ContinuationIn, Each, RowIn, StoreIn, StateIn}
 use Rattle.machine.specs.Answers.{scope, over, held}
-use Rattle.machine.specs.Store.{with_row, CellPushed, RowSet, RowPublished, RowKept}
+use Rattle.machine.specs.Store.{with_row, CellPushed, RowPublished, RowKept}
 use Rattle.machine.specs.declared.parts.Environment.{Environment}
 use Rattle.machine.specs.declared.parts.Environment.TheVariants as Env
 use Rattle.machine.specs.declared.parts.Value.{Value}
 use Rattle.machine.specs.declared.parts.Value.TheVariants as Val
-use Rattle.machine.specs.declared.parts.Bound.{Bound}
 use Rattle.machine.specs.declared.parts.Bound.TheVariants as Bind
 use Rattle.machine.specs.declared.parts.Cell.{Cell}
 use Rattle.machine.specs.declared.parts.Cell.TheVariants as Holds
 use Rattle.machine.specs.declared.parts.Continuation.{Continuation}
 use Rattle.machine.specs.declared.parts.Continuation.TheVariants as Cont
-use Rattle.machine.specs.declared.parts.Phase.{Phase}
 use Rattle.machine.specs.declared.parts.Phase.TheVariants as Now
 use Rattle.machine.specs.declared.parts.SiteRow.{SiteRow}
 use Rattle.machine.specs.declared.parts.Store.{Store}
 use Rattle.machine.specs.declared.parts.State.{State}
 use Rattle.machine.proofs.Growth.{each_push}
 use Rattle.machine.proofs.Frames.{length_push}
-use Rattle.machine.proofs.Stays.{environment_up}
 use Rattle.machine.proofs.Room.{site_row, map_length}
-use Rattle.machine.proofs.Cells.{Grown, grown}
+use Rattle.machine.proofs.Cells.{grown}
 
 module _ {A : Type 0} where
   pub each_set : (P : ℕ → A → Type 0) (xs : List A) (w : ℕ) (x : A) → Each P xs → P w x → Each P (set xs w x)

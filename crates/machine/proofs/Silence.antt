@@ -1,5 +1,5 @@
 -- A silent register that a step meets is of the site where work stands.
-use Rattle.std.proofs.Common.{◌≡◌, ℕ, cond, ltb, List, Some, None, Option as Maybe, sym, refl, subst}
+use Rattle.std.proofs.Common.{◌≡◌, ℕ, cond, ltb, Some, None, Option as Maybe, refl, subst}
 use mathlib.Core.Option.{Option, some, none as nothing}
 use lib.ListN.{get_elem?}
 use Rattle.syntax.specs.declared.program.Term.{Term as TermRow}

@@ -1,14 +1,14 @@
 -- Values by their kinds.
-use Rattle.std.proofs.Common.{◌≡◌, ℕ, ◌+◌, ◌<◌, ◌≤◌, Bool, true, false, List, [], ◌∷◌, ◌++◌, length, vec_items, sym, refl, ap, ◌∙◌, subst, append-nil, arith}
-use mathlib.Core.Option.{some, none as nothing}
+use Rattle.std.proofs.Common.{◌≡◌, ℕ, true, false, List, [], length, sym, refl, ap, ◌∙◌, subst, append-nil, arith}
+use mathlib.Core.Option.{some}
 use lib.ListN.{get_elem?}
 use Rattle.syntax.specs.declared.program.Term.{Term as TermRow}
 use Rattle.syntax.specs.declared.program.Term.TheVariants as Row
 use Rattle.calculus.specs.Machine
 use Rattle.calculus.specs.Program.{made_of}
-use Rattle.machine.specs.Meaning.{meanings, value_of, cells_of}
-use Rattle.machine.specs.Sound.{Each, CellIn, ValueIn, EnvironmentIn, StateIn}
-use Rattle.machine.specs.Answers.{Lands, held, is_number, is_function, is_code, is_address, is_pair}
+use Rattle.machine.specs.Meaning.{meanings, value_of}
+use Rattle.machine.specs.Sound.{Each, CellIn, ValueIn}
+use Rattle.machine.specs.Answers.{Lands, is_number, is_function, is_code, is_address, is_pair}
 use Rattle.machine.proofs.Growth.{elem_below}
 use Rattle.machine.proofs.Stays.{pair_cell, meanings_read, value_up}
 use Rattle.machine.specs.declared.parts.Environment.{Environment}
@@ -16,7 +16,6 @@ use Rattle.machine.specs.declared.parts.Value.{Value}
 use Rattle.machine.specs.declared.parts.Value.TheVariants as Val
 use Rattle.machine.specs.declared.parts.Cell.{Cell}
 use Rattle.machine.specs.declared.parts.Cell.TheVariants as Holds
-use Rattle.machine.specs.declared.parts.State.{State}
 
 -- only a lam and a box have a body
 pub no_body : (r : TermRow) → ((t b : ℕ) → r ≡ Row.Lam t b → ⊥) → ((b : ℕ) → r ≡ Row.Boxed b → ⊥) → (made_of (some r)).1 ≡ 0

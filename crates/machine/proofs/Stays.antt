@@ -1,11 +1,11 @@
 -- What tables stand for stays as it is when they grow.
-use Rattle.std.proofs.Common.{◌≡◌, ℕ, zero, suc, ◌+◌, ◌<◌, ◌≤◌, true, List, [], ◌∷◌, ◌++◌, map, length, get_or, vec_items, vec_len, vec_capacity, sym, refl, ap, ◌∙◌, arith, length-append}
-use mathlib.Core.Option.{some, none-ne-some}
+use Rattle.std.proofs.Common.{◌≡◌, ℕ, zero, suc, ◌≤◌, true, List, [], ◌∷◌, ◌++◌, length, get_or, refl, ap, arith}
+use mathlib.Core.Option.{some}
 use lib.ListN.{get_elem?}
 use Rattle.calculus.specs.Machine
-use Rattle.machine.specs.Meaning.{Meaning, environment_of, value_of, bound_of, cell_of, meanings, continuation_of, task_of, frame_of, chains, phase_of, published_of, kept_of, blank}
-use Rattle.machine.specs.Sound.{pair_at, is_pair, EnvironmentIn, ValueIn, BoundIn, CellIn, ContinuationIn, TaskIn, FrameIn, PhaseIn, Each, RowIn}
-use Rattle.machine.proofs.Growth.{default_left, grow_push, grow_length, grow_same, grow_read, map_same}
+use Rattle.machine.specs.Meaning.{Meaning, environment_of, value_of, bound_of, cell_of, meanings, continuation_of, task_of, frame_of, chains, blank}
+use Rattle.machine.specs.Sound.{pair_at, is_pair, EnvironmentIn, ValueIn, BoundIn, CellIn, ContinuationIn, TaskIn, FrameIn, Each}
+use Rattle.machine.proofs.Growth.{default_left, grow_push, grow_length, grow_same, grow_read}
 use Rattle.machine.specs.declared.parts.Environment.{Environment}
 use Rattle.machine.specs.declared.parts.Environment.TheVariants as Env
 use Rattle.machine.specs.declared.parts.Value.{Value}
@@ -19,9 +19,6 @@ use Rattle.machine.specs.declared.parts.Continuation.TheVariants as Cont
 use Rattle.machine.specs.declared.parts.Task.{Task}
 use Rattle.machine.specs.declared.parts.Task.TheVariants as Does
 use Rattle.machine.specs.declared.parts.Frame.{Frame}
-use Rattle.machine.specs.declared.parts.Phase.{Phase}
-use Rattle.machine.specs.declared.parts.Phase.TheVariants as Now
-use Rattle.machine.specs.declared.parts.SiteRow.{SiteRow}
 
 pub pair_more : (cs ds : List Cell) (i : ℕ) → pair_at cs i ≡ true → pair_at (cs ++ ds) i ≡ true
 pair_more [] ds i e = absurd (grind arith)

@@ -1,5 +1,5 @@
 -- The step at each shape of the state.
-use Rattle.std.proofs.Common.{◌≡◌, ℕ, zero, suc, ◌<◌, ◌≤◌, Bool, true, false, List, [], ◌∷◌, length, get_or, vec_items, sym, refl, ap, ◌∙◌, subst, arith}
+use Rattle.std.proofs.Common.{◌≡◌, ℕ, zero, suc, ◌<◌, true, false, List, [], ◌∷◌, length, vec_items, refl, ap, ◌∙◌, subst, arith}
 use mathlib.Core.Option.{Option, some, none as nothing}
 use lib.ListN.{get_elem?}
 use Rattle.syntax.specs.declared.program.Term.{Term as TermRow}
@@ -7,8 +7,8 @@ use Rattle.calculus.specs.Machine
 use Rattle.calculus.specs.Program.{Program}
 use Rattle.calculus.specs.Step.{Works}
 use Rattle.calculus.specs.Tables.{entry}
-use Rattle.calculus.specs.Limits.{lacks, lacking, lacking_for, eval_rule, back_rule, takes, row_rule, frame_rule, no_place}
-use Rattle.machine.specs.Meaning.{cells_of, chains_of, sites_of, places_of, state_of, phase_of, continuation_of, task_of, frame_of, chains}
+use Rattle.calculus.specs.Limits.{lacks, lacking, lacking_for, eval_rule, back_rule, takes, row_rule, frame_rule}
+use Rattle.machine.specs.Meaning.{cells_of, sites_of, places_of, state_of, phase_of, task_of}
 use Rattle.machine.specs.Sound.{StateIn}
 use Rattle.machine.specs.Answers.{Lands, answered, is_some, scope, held, over, of_terms, stepped_on, evaluated, row_stepped, resuming, framed, worked}
 use Rattle.machine.proofs.Stays.{chains_read}
@@ -81,9 +81,6 @@ module _ (ts : List TermRow) (v : Works) (s : State) where
     module _ (w c : ℕ) (e : s.continuation ≡ Cont.Return w c) where
       pub return_found : Lands s.stations (Machine.step P v (state_of s)) → is_some (entry (sites_of s).kept w c) ≡ true
       return_found live = wants_kept s.stations v (sites_of s) s.site (places_of s) w (Machine.back (held s u)) (entry (sites_of s).kept w c) (subst (Lands s.stations) (at_back (Cont.Return w c) e) live)
-
-      pub return_step : Machine.step P v (state_of s) ≡ Machine.resume v (sites_of s) s.site (places_of s) w (Machine.back (held s u)) (entry (sites_of s).kept w c)
-      return_step = at_back (Cont.Return w c) e
 
       pub return_answer : stepped_on v s P ≡ resuming v s w c (Now.Back u)
       return_answer = λ i. answered (at_back (Cont.Return w c) e i) (lacks_back (Cont.Return w c) e i)

@@ -1,27 +1,29 @@
 -- What a step touches is what its row reads or its task sets.
-use Rattle.std.proofs.Common.{◌≡◌, ℕ, ◌<◌, ◌≤◌, cond, ltb, List, [], ◌∷◌, length, Some, None, Option as Maybe, sym, refl, ap, ◌∙◌, subst, arith}
+use Rattle.std.proofs.Common.{◌≡◌, ℕ, ◌<◌, ◌≤◌, cond, ltb, List, [], ◌∷◌, length, Some, None, Option as Maybe, refl, arith}
 use mathlib.Core.Option.{Option, some, none as nothing}
 use lib.ListN.{get_elem?}
 use Rattle.syntax.specs.declared.program.Term.{Term as TermRow}
 use Rattle.syntax.specs.declared.program.Term.TheVariants as Row
 use Rattle.calculus.specs.Machine
 use Rattle.calculus.specs.Program.{Program, body_of}
-use Rattle.calculus.specs.Step.{Works, Instrument, a_gauge, a_gate, Event, quiet, looked, was_read, was_set}
+use Rattle.calculus.specs.Step.{Works, a_gauge, a_gate, Event, quiet, looked, was_read, was_set}
 use Rattle.calculus.specs.Tables.{entry, count, row}
-use Rattle.calculus.specs.Run.{Marks, touched_by}
-use Rattle.machine.specs.Answers.{Answer, went, answered, Lands}
-use Rattle.machine.specs.Touching.{marked_by, gauge_read, gate_set, touching, NumberFits}
+use Rattle.calculus.specs.Marks.{Marks, marks_after}
+use Rattle.machine.specs.Answers.{went, answered, Lands}
+use Rattle.lines.specs.declared.refusal.Instrument.{Instrument as Named}
+use Rattle.machine.specs.Marks.{instrument_named}
+use Rattle.machine.specs.Touching.{marked_by, gauge_read, gate_set, touching, NumberFits, of_kind, with_touched, TouchedFits}
 use Rattle.machine.specs.Meaning.{Meaning, task_of, value_of, environment_of}
 use Rattle.machine.proofs.Growth.{elem_below}
 use Rattle.machine.specs.declared.parts.Task.{Task}
 use Rattle.machine.specs.declared.parts.Task.TheVariants as Does
 
 -- one step's marks, and then the others'
-pub touched_cons : (e : Event) (es : List Event) (ms : Marks) → touched_by (e ∷ es) ms ≡ touched_by es (touched_by (e ∷ []) ms)
-touched_cons quiet es ms = refl
-touched_cons (looked a b c) es ms = refl
-touched_cons (was_read s g c) es ms = refl
-touched_cons (was_set s g x c) es ms = refl
+pub marks_cons : (e : Event) (es : List Event) (ms : Marks) → marks_after (e ∷ es) ms ≡ marks_after es (marks_after (e ∷ []) ms)
+marks_cons quiet es ms = refl
+marks_cons (looked a b c) es ms = refl
+marks_cons (was_read s g c) es ms = refl
+marks_cons (was_set s g x c) es ms = refl
 
 module _ (v : Works) (H : Machine.Sites) (w : ℕ) (c : Machine.Places) (ms : Marks) where
   looked_quiet : (k : Machine.Continuation) (s l : ℕ) (o : Option Machine.Value) → marked_by (Machine.looked_up v H w c k s l o) ms ≡ ms
@@ -192,3 +194,12 @@ module _ (v : Works) (H : Machine.Sites) (w : ℕ) (c : Machine.Places) (m : ℕ
   task_fits P cs k x (Does.Compare b y z e) few h = tt
   task_fits P cs k x (Does.Compared a y z e) few h = tt
   task_fits P cs k x (Does.Set n) few h = set_fits k n x few h
+
+-- a register by its kind and its number, as the code names it
+pub kind_marks : (κ : Named) (o : Option ℕ) (s : ℕ) (ms : Marks) → touching (instrument_named κ) o s ms ≡ with_touched (of_kind κ o) s ms
+kind_marks κ nothing s ms = refl
+kind_marks κ (some n) s ms = refl
+
+pub kind_fits : (κ : Named) (o : Option ℕ) → NumberFits o → TouchedFits (of_kind κ o)
+kind_fits κ nothing h = h
+kind_fits κ (some n) h = h

@@ -1,12 +1,10 @@
 -- A state of a typed program is safe for ever.
 use Rattle.std.proofs.Common.{◌≡◌, ℕ, zero, suc, ◌<◌, Bool, true, false, length, sym, refl, ap, ◌∙◌, subst}
-use lib.ListN.{get_elem?}
-use Rattle.calculus.specs.Types.{Ty, Sheet}
+use Rattle.calculus.specs.Types.{Ty}
 use Rattle.calculus.specs.Machine
 use Rattle.calculus.specs.Program.{Program, WellTyped}
-use Rattle.calculus.specs.Step.{Works, Event, step, stepped}
-use Rattle.calculus.specs.NetworkTyping.{Agrees, NetworkTyped, setup}
-use Rattle.calculus.specs.Typing.{Entries}
+use Rattle.calculus.specs.Step.{Works, Event, step}
+use Rattle.calculus.specs.NetworkTyping.{Agrees}
 use Rattle.calculus.specs.Meaning.{network_of, outcome_of}
 use Rattle.calculus.specs.Simulation.{StateTyped, StatesTyped}
 use Rattle.calculus.specs.Theorems.{SheetStays}

@@ -1,11 +1,11 @@
 -- A walk down a chain of bindings.
-use Rattle.std.proofs.Common.{◌≡◌, ℕ, zero, suc, ◌+◌, ◌<◌, ◌≤◌, List, [], ◌∷◌, ◌++◌, length, get_or, Some, None, sym, refl, ap, ◌∙◌, subst, append-nil, arith}
+use Rattle.std.proofs.Common.{◌≡◌, ℕ, zero, suc, ◌+◌, ◌<◌, ◌≤◌, List, [], ◌++◌, length, Some, None, sym, refl, ap, ◌∙◌, subst, append-nil, arith}
 use mathlib.Core.Option.{some, none as nothing}
 use lib.ListN.{get_elem?}
 use Rattle.calculus.specs.Machine
-use Rattle.machine.specs.Meaning.{Meaning, meanings, environment_of, bound_of, blank}
-use Rattle.machine.specs.Lookups.{counted, passing, sought, as_found}
-use Rattle.machine.specs.Sound.{Each, CellIn, EnvironmentIn, ValueIn, BoundIn}
+use Rattle.machine.specs.Meaning.{Meaning, meanings, environment_of, bound_of}
+use Rattle.machine.specs.Lookups.{passing, sought, as_found}
+use Rattle.machine.specs.Sound.{Each, CellIn, EnvironmentIn, BoundIn}
 use Rattle.machine.proofs.Stays.{meanings_read, environment_up, bound_up}
 use Rattle.machine.proofs.Growth.{elem_below}
 use Rattle.machine.specs.declared.parts.Environment.{Environment}

@@ -1,12 +1,11 @@
 -- What a step of the machine answers, against the step of the environment machine and the places that its rule takes.
-use Rattle.std.specs.Prelude.{◌≡◌, ℕ, ◌<◌, Bool, true, false, cond, List, [], length, Ok, Err, Option as Maybe, Result, nat_lt}
+use Rattle.std.specs.Prelude.{◌≡◌, ℕ, ◌<◌, Bool, true, false, cond, List, [], Ok, Err, Option as Maybe, Result, nat_lt}
 use Rattle.std.proofs.Math.Option.{Option, some, none as nothing}
-use Rattle.lines.specs.Refusals.{table_kind}
 use Rattle.lines.specs.declared.refusal.RegisterFault.{RegisterFault}
 use Rattle.lines.specs.declared.refusal.RegisterFault.TheVariants.{NotFitted, Silent}
 use Rattle.lines.specs.declared.refusal.Unanswered.{Unanswered}
 use Rattle.calculus.specs.Machine
-use Rattle.calculus.specs.Step.{Works, Instrument, a_gauge, a_gate, Event, quiet}
+use Rattle.calculus.specs.Step.{Works, Instrument, a_gauge, a_gate, quiet}
 use Rattle.syntax.specs.declared.program.Term.{Term as TermRow}
 use Rattle.calculus.specs.Limits.{takes, row_rule, frame_rule, lacks, lacking, a_frame, a_binding, two_bindings, a_pair, a_published, a_kept, a_binding_and_kept, no_place}
 use Rattle.calculus.specs.Tables.{Table as Tabled, count, entry}
@@ -24,8 +23,17 @@ use Rattle.lines.specs.declared.refusal.StepFault.{StepFault}
 use Rattle.lines.specs.declared.refusal.StepFault.TheVariants.{Full, Register}
 use Rattle.lines.specs.declared.refusal.Instrument.{Instrument as Coded}
 use Rattle.lines.specs.declared.refusal.Instrument.TheVariants.{Gauge, Gate}
+use Rattle.lines.specs.declared.refusal.Table.{Table}
+use Rattle.lines.specs.declared.refusal.Table.TheVariants.{Frames, Bindings, Pairs, Published, Kept}
 
--- a kind of register, as the calculus has it
+-- The kinds of tables by their numbers.
+abbrev pub kind : Table → ℕ
+kind Frames = 1
+kind Bindings = 2
+kind Pairs = 3
+kind Published = 4
+kind Kept = 5
+
 abbrev pub instrument_of : Coded → Instrument
 instrument_of Gauge = a_gauge
 instrument_of Gate = a_gate
@@ -64,7 +72,7 @@ Goes s t u a = StateIn t × (t.stations ≡ s.stations) × (a ≡ went (state_of
 -- The code went from the state s and a works that shows v to t and u, as the answer says. A fault leaves all as it was.
 abbrev pub Ends : {U : Type 0} → Result U StepFault → State → State → Works → Works → Answer → Type 0
 Ends (Ok x) s t v u a = Goes s t u a
-Ends (Err (Full k)) s t v u a = (t ≡ s) × (u ≡ v) × (a ≡ full (table_kind k))
+Ends (Err (Full k)) s t v u a = (t ≡ s) × (u ≡ v) × (a ≡ full (kind k))
 Ends (Err (Register f)) s t v u a = (t ≡ s) × (u ≡ v) × Met f a
 
 -- There is a step to a site that there is, or a silent register is met.

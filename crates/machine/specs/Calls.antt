@@ -1,5 +1,5 @@
 -- What a place for a machine holds, and what its calls answer and leave.
-use Rattle.std.specs.Prelude.{◌≡◌, ℕ, cond, List, Ok, Err, vec_items, Result, ◌==◌}
+use Rattle.std.specs.Prelude.{ℕ, cond, List, Ok, Err, vec_items, Result, ◌==◌}
 use Rattle.std.proofs.Math.Option.{Option, some, none as nothing}
 use Rattle.lines.specs.Writing.{written, written_after}
 use Rattle.lines.specs.declared.refusal.Refusal.{Refusal}
@@ -13,7 +13,8 @@ use Rattle.lines.specs.declared.refusal.Table.TheVariants.{Frames, Bindings, Pai
 use Rattle.instruments.specs.Sheets.{stations_of}
 use Rattle.calculus.specs.Program.{Program}
 use Rattle.calculus.specs.Step.{Instrument, a_gauge, a_gate}
-use Rattle.calculus.specs.Calls.{Started, start_of, RunAnswer, work_done, budget_spent, nothing_started, another_sheet, silent_register, no_places, no_rule, Reply, says, refuses, stand_call, answer_call}
+use Rattle.calculus.specs.Calls.{RunAnswer, work_done, budget_spent, nothing_started, another_sheet, silent_register, no_places, no_rule, Reply, says, refuses}
+use Rattle.calculus.specs.Marked.{Marked, start_marked, stand_marked, answer_marked, LogsAlike}
 use Rattle.calculus.specs.Law.{LogsLawful}
 use Rattle.checker.specs.Accepting.{Place as ProgramPlace}
 use Rattle.checker.specs.Accepting.Place.{empty, full}
@@ -30,8 +31,8 @@ abbrev pub program_of : Machine → Program
 program_of m = record { sheet = stations_of m.sheet; types = vec_items m.types; terms = vec_items m.terms; start = m.start }
 
 -- A place is empty, or full with a program, the state that the tables stand for, and the marks of the registers touched.
-abbrev pub place : Machine → Option Started
-place m = cond m.full (some (record { program = program_of m; state = state_of m.state; touched = bits_of m.marks })) nothing
+abbrev pub place : Machine → Option Marked
+place m = cond m.full (some (record { program = program_of m; state = state_of m.state; marks = bits_of m.marks })) nothing
 
 -- A start answers 25 where nothing was accepted.
 abbrev pub start_answered : ProgramPlace → Result Unit Refusal
@@ -39,19 +40,25 @@ start_answered empty = Err Nothing
 start_answered (full P A) = Ok tt
 
 -- The place after a start: a new machine in the place of what was there, or as it was where nothing was accepted.
-abbrev pub started_into : Option Started → ProgramPlace → Option Started
+abbrev pub started_into : Option Marked → ProgramPlace → Option Marked
 started_into q empty = q
-started_into q (full P A) = some (start_of P)
+started_into q (full P A) = some (start_marked P)
 
 -- The law of logs, for the program that is started.
 abbrev pub LawOf : ProgramPlace → Type 0
 LawOf empty = Unit {0}
 LawOf (full P A) = LogsLawful P A
 
--- the table with a kind
+-- The law of marks, for the program that is started.
+abbrev pub MarksLawOf : ProgramPlace → Type 0
+MarksLawOf empty = Unit {0}
+MarksLawOf (full P A) = LogsAlike P
+
+-- the table with a kind, by its number
 abbrev pub table_of : ℕ → Table
 table_of n = cond (n == 1) Frames (cond (n == 2) Bindings (cond (n == 3) Pairs (cond (n == 4) Published Kept)))
 
+-- a kind of register, as a refusal names it
 abbrev pub named : Instrument → Named
 named a_gauge = Gauge
 named a_gate = Gate
@@ -73,23 +80,28 @@ unready n = cond (n == 33) NotDone Nothing
 
 -- What is said is written as a line, and a refusal leaves the buffer as it was.
 module _ {A : Type 0} (line : A → List ℕ) where
+  -- what the call answers: the length of the line, or the refusal
   abbrev pub replied : Reply A → List ℕ → Result ℕ Refusal
   replied (says a) out = written (line a) out
   replied (refuses n) out = Err (unready n)
 
+  -- the buffer after it
   abbrev pub replied_after : Reply A → List ℕ → List ℕ
   replied_after (says a) out = written_after (line a) out
   replied_after (refuses n) out = out
 
--- Writing where a machine stands, and writing its answer.
-abbrev pub stand_written : Option Started → List ℕ → Result ℕ Refusal
-stand_written p = replied stand_line (stand_call p).reply
+-- What writing where a machine stands answers.
+abbrev pub stand_written : Option Marked → List ℕ → Result ℕ Refusal
+stand_written p = replied stand_line (stand_marked p)
 
-abbrev pub stand_after : Option Started → List ℕ → List ℕ
-stand_after p = replied_after stand_line (stand_call p).reply
+-- the buffer after it
+abbrev pub stand_after : Option Marked → List ℕ → List ℕ
+stand_after p = replied_after stand_line (stand_marked p)
 
-abbrev pub answer_written : Option Started → List ℕ → Result ℕ Refusal
-answer_written p = replied answer_line (answer_call p).reply
+-- What writing the answer answers.
+abbrev pub answer_written : Option Marked → List ℕ → Result ℕ Refusal
+answer_written p = replied answer_line (answer_marked p)
 
-abbrev pub answer_after : Option Started → List ℕ → List ℕ
-answer_after p = replied_after answer_line (answer_call p).reply
+-- the buffer after it
+abbrev pub answer_after : Option Marked → List ℕ → List ℕ
+answer_after p = replied_after answer_line (answer_marked p)

@@ -1,12 +1,12 @@
 -- What a few tables stand for, and what a few steps answer.
 use Rattle.std.specs.Prelude.{◌≡◌, List, [], ◌∷◌, codes, refl}
-use Rattle.std.proofs.Math.Option.{some, none as nothing}
+use Rattle.std.proofs.Math.Option.{some}
 use Rattle.std.specs.Fmt.{digits}
 use Rattle.calculus.specs.Machine
 use Rattle.calculus.specs.Step.{Works, quiet, a_gate}
 use Rattle.machine.specs.Meaning.{meanings, chains, environment_of, value_of, continuation_of}
 use Rattle.machine.specs.Texts.{value_text, answer_line}
-use Rattle.machine.specs.Answers.{Answer, answered, went, full, met}
+use Rattle.machine.specs.Answers.{answered, full, met}
 use Rattle.machine.specs.declared.parts.Environment.TheVariants as Env
 use Rattle.machine.specs.declared.parts.Value.TheVariants as Val
 use Rattle.machine.specs.declared.parts.Bound.TheVariants as Bind

@@ -10,14 +10,16 @@ pub mod Store
 pub mod Lookups
 -- what a step answers
 pub mod Answers
--- which register a step touches
-pub mod Touching
 -- what always holds of a machine
 pub mod Safe
 -- what a run answers
 pub mod Runs
 -- the marks of registers, in bytes
 pub mod Marks
+-- which register a step touches
+pub mod Touching
+-- what a run that marks registers answers
+pub mod MarkedRuns
 -- how values are written
 pub mod Texts
 -- where a machine stands

@@ -1,7 +1,7 @@
 -- Marks of registers, in bytes.
 use Rattle.std.specs.Prelude.{ℕ, zero, suc, ◌/◌, ◌%◌, Bool, List, [], ◌∷◌, ◌++◌, ◌==◌}
 use Rattle.calculus.specs.Step.{Instrument, a_gauge, a_gate}
-use Rattle.calculus.specs.Run.{Marks}
+use Rattle.calculus.specs.Marks.{Marks}
 use Rattle.lines.specs.declared.refusal.Instrument.{Instrument as Named}
 use Rattle.lines.specs.declared.refusal.Instrument.TheVariants.{Gauge, Gate}
 

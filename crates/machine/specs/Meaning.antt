@@ -1,5 +1,5 @@
 -- What the tables of a machine stand for: a state of the environment machine.
-use Rattle.std.specs.Prelude.{ℕ, List, [], ◌∷◌, ◌++◌, map, length, get_or, take, vec_items, slice_index_or}
+use Rattle.std.specs.Prelude.{List, [], map, length, get_or, take, vec_items, slice_index_or}
 use Rattle.calculus.specs.Machine
 use Rattle.machine.specs.Grow.{grow}
 use Rattle.machine.specs.declared.parts.Environment.{Environment}

@@ -1,7 +1,9 @@
 -- Where a machine stands, and the line that says so.
 use Rattle.std.specs.Prelude.{◌≡◌, ℕ, ◌+◌, List, [], ◌∷◌, ◌++◌, length, vec_items, codes, decimal, refl}
 use Rattle.std.specs.Fmt.{digits}
-use Rattle.calculus.specs.Run.{Shown, evaluating, returning, finished, Stand}
+use Rattle.calculus.specs.Machine
+use Rattle.calculus.specs.Run.{Shown, evaluating, returning, finished, Stand, stand_of}
+use Rattle.calculus.specs.Marks.{Marks, marks_set}
 use Rattle.machine.specs.declared.parts.SiteRow.{SiteRow}
 use Rattle.machine.specs.declared.stand.Work.{Work}
 use Rattle.machine.specs.declared.stand.Work.TheVariants.{Evaluating, Returning, Finished}
@@ -17,15 +19,21 @@ abbrev pub published_places : List SiteRow → ℕ
 published_places [] = 0
 published_places (r ∷ rs) = length (vec_items r.published) + published_places rs
 
+-- what a machine is doing, as the calculus has it
 abbrev pub work_of : Work → Shown
 work_of Evaluating = evaluating
 work_of Returning = returning
 work_of Finished = finished
 
+-- Where a machine stands, with as many registers touched as marks are set.
+abbrev pub stand_with : Machine.State → Marks → Stand
+stand_with M ms = let t = stand_of M [] in record { site = t.site; phase = t.phase; frames = t.frames; kept = t.kept; published = t.published; touched = marks_set ms }
+
 -- what a stand in code says
 abbrev pub counted : Counted → Stand
 counted s = record { site = s.site; phase = work_of s.work; frames = s.frames; kept = s.kept; published = s.published; touched = s.touched }
 
+-- the word for what a machine is doing
 abbrev pub phase_text : Shown → List ℕ
 phase_text evaluating = codes "eval"
 phase_text returning = codes "back"
@@ -38,6 +46,7 @@ stand_line s =
     (codes " " ++ (decimal s.frames ++ (codes " " ++ (decimal s.kept ++ (codes " " ++ (decimal s.published ++
     (codes " " ++ (decimal s.touched ++ codes ")\n")))))))))))
 
+-- a stand with each number
 stand_shown : stand_line (record { site = 1; phase = returning; frames = 23; kept = 4; published = 0; touched = 1024 }) ≡ codes "(stand 1 back 23 4 0 1024)\n"
 unfolding digits
 stand_shown = refl

@@ -1,5 +1,5 @@
 -- Tables with nothing in them, and memory for all that the limits allow.
-use Rattle.std.specs.Prelude.{◌≡◌, ℕ, ◌≤◌, List, [], vec_items, vec_len, vec_capacity}
+use Rattle.std.specs.Prelude.{◌≡◌, ◌≤◌, [], vec_items, vec_capacity}
 use Rattle.machine.specs.Sound.{Each, StoreIn}
 use Rattle.machine.specs.declared.parts.SiteRow.{SiteRow}
 use Rattle.machine.specs.declared.parts.Store.{Store}

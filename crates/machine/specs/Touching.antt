@@ -1,26 +1,34 @@
 -- Which register a step touches, and the marks after it.
-use Rattle.std.specs.Prelude.{◌≡◌, ℕ, ◌<◌, [], ◌∷◌, Ok, Err, Result}
+use Rattle.std.specs.Prelude.{◌≡◌, ℕ, ◌<◌, ◌≤◌, [], ◌∷◌, length, Ok, Err, Some, None, Result, Option as Maybe}
 use Rattle.std.proofs.Math.Option.{Option, some, none as nothing}
+use Rattle.lines.specs.declared.refusal.Instrument.{Instrument as Named}
 use Rattle.lines.specs.declared.refusal.StepFault.{StepFault}
 use Rattle.syntax.specs.declared.program.Term.{Term as TermRow}
 use Rattle.syntax.specs.declared.program.Term.TheVariants as Row
 use Rattle.calculus.specs.Machine
-use Rattle.calculus.specs.Step.{Instrument, a_gauge, a_gate}
-use Rattle.calculus.specs.Run.{Register, Marks, marked, touched_by}
+use Rattle.calculus.specs.Program.{Program}
+use Rattle.calculus.specs.Step.{Works, Instrument}
+use Rattle.calculus.specs.Tables.{row}
+use Rattle.calculus.specs.Marks.{Marks, with_mark, marks_after}
 use Rattle.calculus.specs.Run.Register.{register}
+use Rattle.machine.specs.Marks.{instrument_named}
+use Rattle.machine.specs.Meaning.{state_of}
+use Rattle.machine.specs.Answers.{went, stepped_on, Lands}
+use Rattle.machine.specs.declared.marking.Touched.{Touched}
+use Rattle.machine.specs.declared.parts.State.{State}
 use Rattle.machine.specs.declared.parts.Task.{Task}
 use Rattle.machine.specs.declared.parts.Task.TheVariants as Does
 
 -- The marks after a step: the register that it read or set is marked.
 abbrev pub marked_by : Machine.Outcome → Marks → Marks
-marked_by (Machine.stepped L u e) ms = touched_by (e ∷ []) ms
+marked_by (Machine.stepped L u e) ms = marks_after (e ∷ []) ms
 marked_by (Machine.silent κ s n) ms = ms
 marked_by Machine.stuck ms = ms
 
 -- A step that is taken marks what it touched; one that is not taken marks nothing.
-abbrev pub Marked : {U : Type 0} → Result U StepFault → Machine.Outcome → Marks → Marks → Type 0
-Marked (Ok x) o before after = after ≡ marked_by o before
-Marked (Err e) o before after = after ≡ before
+abbrev pub StepMarks : {U : Type 0} → Result U StepFault → Machine.Outcome → Marks → Marks → Type 0
+StepMarks (Ok x) o before after = after ≡ marked_by o before
+StepMarks (Err e) o before after = after ≡ before
 
 -- the gauge that a row reads
 abbrev pub gauge_read : TermRow → Option ℕ
@@ -61,9 +69,30 @@ gate_set (Does.Set n) = some n
 -- the marks with that of a register of a site, if there is one
 abbrev pub touching : Instrument → Option ℕ → ℕ → Marks → Marks
 touching κ nothing s ms = ms
-touching κ (some n) s ms = marked (register κ s n) ms
+touching κ (some n) s ms = with_mark (register κ s n) ms
 
 -- a register's number is one that a works may have
 abbrev pub NumberFits : Option ℕ → Type 0
 NumberFits nothing = Unit {0}
 NumberFits (some n) = n < 32
+
+-- a register of that kind, if there is a number of one
+abbrev pub of_kind : Named → Option ℕ → Maybe Touched
+of_kind κ nothing = None
+of_kind κ (some n) = Some (record { instrument = κ; number = n })
+
+-- the marks with that of a register of a site, if there is one, as the code names it
+abbrev pub with_touched : Maybe Touched → ℕ → Marks → Marks
+with_touched None s ms = ms
+with_touched (Some t) s ms = with_mark (register (instrument_named t.instrument) s t.number) ms
+
+-- its number is one that a works may have
+abbrev pub TouchedFits : Maybe Touched → Type 0
+TouchedFits None = Unit {0}
+TouchedFits (Some t) = t.number < 32
+
+-- Whatever a works shows, the next step of a state marks this register of the site where work stands, or none; and a works of at
+-- most 32 gauges and 32 gates at that site has it.
+pub record Touches (P : Program) (s : State) (o : Maybe Touched) : Type 0 where
+  pub marks : (v : Works) (L : Machine.State) (u : Works) → stepped_on v s P ≡ went L u → (ms : Marks) → marked_by (Machine.step P v (state_of s)) ms ≡ with_touched o s.site ms
+  pub fits : (v : Works) → length (row v.gauges s.site) ≤ 32 → length (row v.gates s.site) ≤ 32 → Lands s.stations (Machine.step P v (state_of s)) → TouchedFits o

@@ -14,7 +14,6 @@ ghost use Rattle.machine.specs.declared.parts.Task.TheVariants.{Applied as to_ca
 use crate::parts::*;
 use crate::registers::set_gate;
 use instruments::works::Works;
-use lines::refusal::StepFault;
 use syntax::program::Term;
 
 // The row of a term.

@@ -1,7 +1,6 @@
 // Running a machine, and asking where it stands and what it answers.
 ghost use Rattle.std.specs.Prelude.{◌≡◌};
-ghost use Rattle.calculus.specs.Calls.{run_call};
-ghost use Rattle.calculus.specs.Law.{CallsJoin};
+ghost use Rattle.calculus.specs.Marked.{run_marked, MarkedJoin};
 ghost use Rattle.machine.specs.Answers.{shown};
 ghost use Rattle.machine.specs.Calls.{place as place_of, run_answered, stand_written, stand_after, answer_written, answer_after};
 
@@ -14,13 +13,13 @@ use lines::refusal::Refusal;
 
 impl Machine {
     // Runs the machine on a works, for at most `budget` steps. It is refused where nothing was started, and then where the works has
-    // another sheet; both change nothing. A silent register or a table without places ends it, and the steps before are kept. `joins`: a run that
-    // spends its budget, and then another, are one run with both budgets.
+    // another sheet; both change nothing. A silent register or a table without places ends it, and the steps before are kept. `joins`:
+    // a run that spends its budget, and then another, are one run with both budgets.
     pub fn run<W: Works>(&mut self, works: &mut W, budget: u32) -> Result<Run, Refusal>
-        ensures value { result ≡ run_answered (run_call (place_of self.old) (shown (W.Gauges.readings works.old) (W.Works.settings works.old)) budget).answer }
-        ensures after { place_of self.new ≡ (run_call (place_of self.old) (shown (W.Gauges.readings works.old) (W.Works.settings works.old)) budget).place }
-        ensures works { shown (W.Gauges.readings works.new) (W.Works.settings works.new) ≡ (run_call (place_of self.old) (shown (W.Gauges.readings works.old) (W.Works.settings works.old)) budget).works }
-        ensures joins { CallsJoin }
+        ensures value { result ≡ run_answered (run_marked (place_of self.old) (shown (W.Gauges.readings works.old) (W.Works.settings works.old)) budget).answer }
+        ensures after { place_of self.new ≡ (run_marked (place_of self.old) (shown (W.Gauges.readings works.old) (W.Works.settings works.old)) budget).place }
+        ensures works { shown (W.Gauges.readings works.new) (W.Works.settings works.new) ≡ (run_marked (place_of self.old) (shown (W.Gauges.readings works.old) (W.Works.settings works.old)) budget).works }
+        ensures joins { MarkedJoin }
     {
         if !self.full {
             return Err(Refusal::Nothing);
@@ -30,7 +29,7 @@ impl Machine {
         }
         let run = self
             .state
-            .run(self.terms.as_slice(), works, &mut self.marks, budget)?;
+            .run_marked(self.terms.as_slice(), works, &mut self.marks, budget)?;
         Ok(run)
     }
 

@@ -11,7 +11,6 @@ ghost use Rattle.machine.specs.Answers.{Goes, Ends, Lands, answered, is_some, go
 use crate::parts::*;
 use crate::registers::read_gauge;
 use instruments::works::Works;
-use lines::refusal::StepFault;
 use syntax::program::Term;
 
 impl State {

@@ -1,6 +1,6 @@
 // The marks of the registers touched, 1,024 in 128 bytes.
 ghost use Rattle.std.specs.Prelude.{◌≡◌, ◌<◌, length};
-ghost use Rattle.calculus.specs.Run.{marked, marks_set};
+ghost use Rattle.calculus.specs.Marks.{with_mark, marks_set};
 ghost use Rattle.calculus.specs.Run.Register.{register};
 ghost use Rattle.machine.specs.Marks.{bits_of, instrument_named};
 
@@ -11,7 +11,7 @@ pub(crate) fn mark(marks: &mut [u8], instrument: Instrument, site: u16, number: 
     requires whole { length marks.old ≡ 128 }
     requires site { site < 16 }
     requires number { number < 32 }
-    ensures marks { bits_of marks.new ≡ marked (register (instrument_named instrument) site number) (bits_of marks.old) }
+    ensures marks { bits_of marks.new ≡ with_mark (register (instrument_named instrument) site number) (bits_of marks.old) }
     ensures whole { length marks.new ≡ 128 }
 {
     let first = match instrument {

@@ -1,5 +1,6 @@
 // The parts of a machine's state. What is bound and what is paired stands in cells, and frames stand in a table of their own: an
 // entry names others by their places, and only earlier ones.
+pub(crate) use lines::refusal::{Instrument, StepFault, Table, Unanswered};
 
 // A chain of bindings: empty, or the cell of its innermost binding.
 #[derive(Clone, Copy)]
@@ -131,4 +132,11 @@ pub(crate) struct State {
 pub enum Run {
     Done { steps: u32 },
     Spent { steps: u32 },
+}
+
+// Why the next step is not taken, and the steps before it.
+#[derive(Clone, Copy)]
+pub(crate) struct RunFault {
+    pub(crate) fault: StepFault,
+    pub(crate) steps: u32,
 }

@@ -4,8 +4,8 @@ ghost use Rattle.instruments.specs.Registers.{asked, done, set_after};
 ghost use Rattle.machine.specs.Answers.{unanswered};
 ghost use Rattle.lines.specs.declared.refusal.Instrument.TheVariants.{Gauge as a_gauge, Gate as a_gate};
 
+use crate::parts::*;
 use instruments::works::{Gauges, Works};
-use lines::refusal::{Instrument, Unanswered};
 
 // What a gauge shows.
 pub(crate) fn read_gauge<W: Works>(works: &W, site: u16, number: u16) -> Result<u16, Unanswered>

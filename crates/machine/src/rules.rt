@@ -5,7 +5,6 @@ ghost use Rattle.machine.specs.Sound.{StateIn, TaskIn, EnvironmentIn, Continuati
 ghost use Rattle.machine.specs.Answers.{Ends, pushing, binding, opening, joining, publishing, getting, catching};
 
 use crate::parts::*;
-use lines::refusal::StepFault;
 
 impl State {
     // Pushes a frame over `next`, and evaluates a part.

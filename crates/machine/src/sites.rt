@@ -7,7 +7,6 @@ ghost use Rattle.lines.specs.declared.refusal.Table.TheVariants.{Published as of
 
 use crate::parts::*;
 use crate::store::{KEPT, PUBLISHED};
-use lines::refusal::{StepFault, Table};
 
 impl SiteRow {
     pub(crate) fn published_room(&self) -> Result<(), StepFault>

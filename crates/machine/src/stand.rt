@@ -5,7 +5,7 @@ ghost use Rattle.calculus.specs.Run.{stand_of};
 ghost use Rattle.machine.specs.Meaning.{state_of};
 ghost use Rattle.machine.specs.Sound.{StateIn};
 ghost use Rattle.machine.specs.Marks.{bits_of};
-ghost use Rattle.machine.specs.StandLine.{kept_places, published_places, work_of, counted, phase_text, stand_line};
+ghost use Rattle.machine.specs.StandLine.{kept_places, published_places, work_of, stand_with, counted, phase_text, stand_line};
 
 use crate::marks::ones;
 use crate::parts::*;
@@ -95,7 +95,7 @@ impl State {
     fn stand(&self, marks: &[u8]) -> Stand
         requires state { StateIn self.now }
         requires marks { length marks.now ≡ 128 }
-        ensures { counted result ≡ stand_of (state_of self.now) (bits_of marks.now) }
+        ensures { counted result ≡ stand_with (state_of self.now) (bits_of marks.now) }
     {
         let rows = &self.store.rows[..];
         let (kept, published) = places_in(&rows[0..self.stations as usize]);
@@ -114,8 +114,8 @@ impl State {
     pub(crate) fn write_stand(&self, marks: &[u8], out: &mut [u8]) -> Result<usize, Refusal>
         requires state { StateIn self.now }
         requires marks { length marks.now ≡ 128 }
-        ensures value { result ≡ written (stand_line (stand_of (state_of self.now) (bits_of marks.now))) out.old }
-        ensures after { out.new ≡ written_after (stand_line (stand_of (state_of self.now) (bits_of marks.now))) out.old }
+        ensures value { result ≡ written (stand_line (stand_with (state_of self.now) (bits_of marks.now))) out.old }
+        ensures after { out.new ≡ written_after (stand_line (stand_with (state_of self.now) (bits_of marks.now))) out.old }
     {
         let stand = self.stand(marks);
         let mut nothing = [0u8; 0];

@@ -2,7 +2,7 @@
 ghost use Rattle.std.specs.Prelude.{◌≡◌, ◌≤◌, length, IfOk, vec_capacity};
 ghost use Rattle.std.proofs.Math.Option.{none as nothing};
 ghost use Rattle.checker.specs.Accepting.{place as program_place};
-ghost use Rattle.machine.specs.Calls.{place as place_of, start_answered, started_into, LawOf};
+ghost use Rattle.machine.specs.Calls.{place as place_of, start_answered, started_into, LawOf, MarksLawOf};
 
 use crate::parts::{State, Store};
 use crate::place::Machine;
@@ -43,10 +43,12 @@ impl Machine {
     }
 
     // Starts a copy of an accepted program, in the place of what was there. `law`: the law of logs holds of whatever follows this start.
+    // `marks`: whatever follows it, the marks tell the registers touched.
     pub fn start(&mut self, program: &Accepted) -> Result<(), Refusal>
         ensures value { result ≡ start_answered (program_place program.now) }
         ensures after { place_of self.new ≡ started_into (place_of self.old) (program_place program.now) }
         ensures law { LawOf (program_place program.now) }
+        ensures marks { MarksLawOf (program_place program.now) }
     {
         let sheet = program.sheet()?;
         let Some(tables) = program.program() else {

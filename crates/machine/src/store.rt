@@ -7,7 +7,6 @@ ghost use Rattle.machine.specs.Store.{Fits, FramePushed, CellPushed};
 ghost use Rattle.lines.specs.declared.refusal.Table.TheVariants.{Frames as of_frames, Bindings as of_bindings, Pairs as of_pairs};
 
 use crate::parts::*;
-use lines::refusal::{StepFault, Table};
 
 pub(crate) const FRAMES: usize = 4096;
 

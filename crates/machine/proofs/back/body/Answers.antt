@@ -1,4 +1,4 @@
-use Rattle.std.proofs.Common.{◌≡◌, sym, refl, ap, ◌∙◌, rules}
+use Rattle.std.proofs.Common.{sym, ap, ◌∙◌, rules}
 use Rattle.calculus.specs.Program.{made_of}
 use Rattle.machine.proofs.Growth.{elem_past}
 use Rattle.machine.proofs.Sorts.{no_body}
@@ -13,5 +13,5 @@ returns-in-Lam c = sym (ap (λ o. (made_of o).1) c.in-Lam.ensures)
 pub returns-in-Boxed : goal.returns-in-Boxed
 returns-in-Boxed c = sym (ap (λ o. (made_of o).1) c.in-Boxed.ensures)
 
-pub returns-in-default : goal.returns-in-default
-returns-in-default c = sym (ap (λ o. (made_of o).1) c.row-at.ensures ∙ no_body c.row-at.result c.in-default.not-Lam c.in-default.not-Boxed)
+pub returns-in_default : goal.returns-in_default
+returns-in_default c = sym (ap (λ o. (made_of o).1) c.row_at.ensures ∙ no_body c.row_at.result c.in_default.not-Lam c.in_default.not-Boxed)

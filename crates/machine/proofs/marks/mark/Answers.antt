@@ -1,5 +1,6 @@
 use Rattle.std.proofs.Common.{◌≡◌, ℕ, ◌+◌, ◌*◌, ◌<◌, true, length, set, sym, ap, ◌∙◌, arith, length-set}
-use Rattle.calculus.specs.Run.{mark_of, register}
+use Rattle.calculus.specs.Run.{register}
+use Rattle.calculus.specs.Marks.{mark_of}
 use Rattle.lines.specs.declared.refusal.Instrument.{Instrument}
 use Rattle.machine.specs.Marks.{bits_of, instrument_named}
 use Rattle.machine.proofs.Marked.{index_marked}

@@ -1,13 +1,13 @@
 use Rattle.std.proofs.Common.{◌≡◌, ℕ, ◌+◌, ◌<◌, List, get_or, drop, ap, ◌∙◌, arith, rules}
 use lib.Count.{ones, ones-le}
 use Rattle.std.proofs.lemmas.List.{drop_more, drop_all}
-use Rattle.calculus.specs.Run.{marks_set}
+use Rattle.calculus.specs.Marks.{marks_set}
 use Rattle.machine.specs.Marks.{bits_of}
 use Rattle.machine.proofs.Marked.{byte_counts}
 use Rattle.machine.proofs.marks.ones.Goals as goal
 
-pub overflow-add-count : goal.overflow-add-count
-overflow-add-count c =
+pub overflow_add-count : goal.overflow_add-count
+overflow_add-count c =
     let b = get_or c.args.marks.now c.loop-byte.byte-index 0 in
     let fits : b < 256 = search rules in
     let o = ones-le 8 b fits in

@@ -1,5 +1,5 @@
 use Rattle.std.proofs.Common.{◌≡◌, ◌+◌, ◌*◌, ◌≤◌, drop}
-use Rattle.calculus.specs.Run.{marks_set}
+use Rattle.calculus.specs.Marks.{marks_set}
 use Rattle.machine.specs.Marks.{bits_of}
 use Rattle.machine.proofs.marks.ones.Given as goal
 

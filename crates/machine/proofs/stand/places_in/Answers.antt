@@ -4,16 +4,16 @@ use Rattle.machine.specs.StandLine.{kept_places, published_places}
 use Rattle.machine.proofs.Standing.{kept_more, published_more}
 use Rattle.machine.proofs.stand.places_in.Goals as goal
 
-pub overflow-add-continuations : goal.overflow-add-continuations
-overflow-add-continuations c =
+pub overflow_add-continuations : goal.overflow_add-continuations
+overflow_add-continuations c =
     let more = kept_more c.args.rows.now c.loop-row.row-index c.row-item.result c.loop-row-test.true c.row-item.is in
     let here : c.len-continuations.result ≡ length (vec_items c.row-item.result.kept) = search rules in
     let sofar = c.loop-row.invariant.0 in
     let few = c.requires.kept in
     omega arith
 
-pub overflow-add-values : goal.overflow-add-values
-overflow-add-values c =
+pub overflow_add-values : goal.overflow_add-values
+overflow_add-values c =
     let more = published_more c.args.rows.now c.loop-row.row-index c.row-item.result c.loop-row-test.true c.row-item.is in
     let here : c.len-values.result ≡ length (vec_items c.row-item.result.published) = search rules in
     let sofar = c.loop-row.invariant.1 in

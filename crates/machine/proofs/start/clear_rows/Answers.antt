@@ -1,7 +1,4 @@
-use Rattle.std.proofs.Common.{◌≡◌, ℕ, ◌<◌, length, get_or, sym, ◌∙◌, subst, arith}
-use mathlib.Core.Option.{some}
-use lib.ListN.{get_elem?}
-use Rattle.machine.specs.Start.{RowRoom, NewRow}
+use Rattle.std.proofs.Common.{get_or, ◌∙◌, arith}
 use Rattle.machine.proofs.Growth.{elem_getD, elem_below}
 use Rattle.machine.proofs.Rows.{set_length}
 use Rattle.machine.proofs.Fresh.{cleared_more}

@@ -1,15 +1,14 @@
-use Rattle.std.proofs.Common.{◌≡◌, Bool, true, false, length, vec_items, sym, ap, ◌∙◌, subst, arith}
-use Rattle.machine.specs.Sound.{ValueIn}
+use Rattle.std.proofs.Common.{◌≡◌, true, false, vec_items, sym, ap, ◌∙◌, arith}
 use Rattle.machine.specs.Answers.{held, is_pair}
 use Rattle.machine.specs.declared.parts.Cell.TheVariants as Holds
 use Rattle.machine.proofs.Sorts.{pair_held, halves_in}
 use Rattle.machine.proofs.Stays.{meanings_read}
 use Rattle.machine.proofs.parts.State.halves.Goals as goal
 
-pub unreachable-requires-in-default-cell : goal.unreachable-requires-in-default-cell
-unreachable-requires-in-default-cell c =
+pub unreachable-requires-in_default-cell : goal.unreachable-requires-in_default-cell
+unreachable-requires-in_default-cell c =
     let s = c.args.self.now in
-    let m = meanings_read (vec_items s.store.cells) c.in-Pair.place (Holds.Binding c.in-default-cell.field-0 c.in-default-cell.field-1) c.requires.state.store_in.cells_in c.in-default-cell.ensures in
+    let m = meanings_read (vec_items s.store.cells) c.in-Pair.place (Holds.Binding c.in_default-cell.field-0 c.in_default-cell.field-1) c.requires.state.store_in.cells_in c.in_default-cell.ensures in
     let z : false ≡ true = sym (ap (λ v. is_pair (held s v)) c.in-Pair.is ∙ ap (λ x. is_pair x.pair) m) ∙ c.requires.kind in
     grind arith
 

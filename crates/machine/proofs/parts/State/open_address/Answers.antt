@@ -3,4 +3,4 @@ use Rattle.machine.proofs.Sorts.{is_address_then}
 use Rattle.machine.proofs.parts.State.open_address.Goals as goal
 
 pub unreachable-requires : goal.unreachable-requires
-unreachable-requires c = is_address_then (vec_items c.args.self.now.store.cells) c.requires.state.store_in.cells_in c.args.value c.requires.value c.requires.kind c.in-default.not-Address
+unreachable-requires c = is_address_then (vec_items c.args.self.now.store.cells) c.requires.state.store_in.cells_in c.args.value c.requires.value c.requires.kind c.in_default.not-Address

@@ -1,4 +1,4 @@
-use Rattle.std.proofs.Common.{◌≡◌, sym, refl, ap, ◌∙◌}
+use Rattle.std.proofs.Common.{sym, refl, ap, ◌∙◌}
 use Rattle.calculus.specs.Machine
 use Rattle.calculus.specs.Tables.{empty_table}
 use Rattle.machine.proofs.Fresh.{begun_means}

@@ -1,4 +1,4 @@
-use Rattle.std.proofs.Common.{◌≡◌, Bool, true, false, sym, ap, ◌∙◌, arith}
+use Rattle.std.proofs.Common.{◌≡◌, true, false, sym, ap, ◌∙◌, arith}
 use Rattle.machine.specs.Answers.{is_some}
 use Rattle.machine.proofs.Looks.{kept_within, kept_read, kept_missing, resume_goes}
 use Rattle.machine.proofs.parts.State.resume.Goals as goal

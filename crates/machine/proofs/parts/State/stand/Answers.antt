@@ -5,8 +5,8 @@ use Rattle.machine.specs.StandLine.{kept_places, published_places}
 use Rattle.machine.proofs.Standing.{kept_total, published_total, kept_few, published_few}
 use Rattle.machine.proofs.parts.State.stand.Goals as goal
 
-pub places-in-kept-requires : goal.places-in-kept-requires
-places-in-kept-requires c =
+pub places_in-kept-requires : goal.places_in-kept-requires
+places_in-kept-requires c =
     let s = c.args.self.now in
     let t = s.store in
     let z = sub-zero s.stations in
@@ -21,6 +21,6 @@ returns c =
     let rows = s.store.rows in
     let z : s.stations - 0 ≡ s.stations = sub-zero s.stations in
     let frames : c.len.result ≡ length (vec_items s.store.frames) = search rules in
-    let kept = c.places-in-kept.ensures.kept ∙ ap (λ (n : ℕ). kept_places (take n rows)) z ∙ kept_total (chains_of s) s.stations rows in
-    let published = c.places-in-kept.ensures.published ∙ ap (λ (n : ℕ). published_places (take n rows)) z ∙ published_total (cells_of s) s.stations rows in
-    λ i. record { site = s.site; phase = c.work-shown.ensures i; frames = frames i; kept = kept i; published = published i; touched = c.ones.ensures i }
+    let kept = c.places_in-kept.ensures.kept ∙ ap (λ (n : ℕ). kept_places (take n rows)) z ∙ kept_total (chains_of s) s.stations rows in
+    let published = c.places_in-kept.ensures.published ∙ ap (λ (n : ℕ). published_places (take n rows)) z ∙ published_total (cells_of s) s.stations rows in
+    λ i. record { site = s.site; phase = c.work_shown.ensures i; frames = frames i; kept = kept i; published = published i; touched = c.ones.ensures i }

@@ -1,18 +1,17 @@
-use Rattle.std.proofs.Common.{◌≡◌, Some, None, sym, ap, ◌∙◌, subst}
-use mathlib.Core.Option.{some}
+use Rattle.std.proofs.Common.{Some, sym, ap, ◌∙◌, subst}
 use Rattle.calculus.specs.Machine
 use Rattle.calculus.specs.Step.{quiet, looked}
 use Rattle.calculus.specs.Limits.{lacking, no_place}
 use Rattle.machine.specs.Meaning.{cells_of, state_of, sites_of, places_of}
 use Rattle.machine.specs.Lookups.{found_of}
-use Rattle.machine.specs.Answers.{Goes, Lands, answered, valued, over, held}
+use Rattle.machine.specs.Answers.{Goes, Lands, answered, valued, over}
 use Rattle.machine.proofs.Looks.{dark, un_value, published_read, published_missing, event_goes}
 use Rattle.machine.proofs.parts.State.value.Goals as goal
 
 pub unreachable-requires : goal.unreachable-requires
 unreachable-requires c =
     let s = c.args.self.now in
-    subst (λ f. Lands s.stations (valued dark s f)) (un_value c.in-default.ensures.found) (c.requires.live dark)
+    subst (λ f. Lands s.stations (valued dark s f)) (un_value c.in_default.ensures.found) (c.requires.live dark)
 
 pub unreachable-requires-in-None : goal.unreachable-requires-in-None
 unreachable-requires-in-None c =
@@ -39,7 +38,7 @@ pub returns-in-Value : goal.returns-in-Value
 returns-in-Value c v =
     let s = c.args.self.now in
     let found = un_value c.in-Some.ensures.found ∙ ap (λ b. found_of (cells_of s) (Some b)) c.in-Value.is in
-    subst (λ f. Goes s c.go-on.new.self v (answered (valued v s f) (lacking no_place (state_of s)))) (sym found) (c.go-on.ensures v)
+    subst (λ f. Goes s c.go_on.new.self v (answered (valued v s f) (lacking no_place (state_of s)))) (sym found) (c.go_on.ensures v)
 
 pub returns-in-Some-published : goal.returns-in-Some-published
 returns-in-Some-published c v =
@@ -47,7 +46,7 @@ returns-in-Some-published c v =
     let p = c.in-Some-published.ensures in
     let found = un_value c.in-Some.ensures.found ∙ ap (λ b. found_of (cells_of s) (Some b)) c.in-Label.is in
     let e = published_read s s.site c.requires.state.site_in p.0 p.1 c.in-Label.label c.in-Some-published.value p.2 in
-    let t = c.go-on-in-Some-published.new.self in
-    let g = event_goes s c.requires.state t v _ quiet (looked c.in-Label.site c.in-Label.label s.site) _ (c.go-on-in-Some-published.ensures v) in
+    let t = c.go_on-in-Some-published.new.self in
+    let g = event_goes s c.requires.state t v _ quiet (looked c.in-Label.site c.in-Label.label s.site) _ (c.go_on-in-Some-published.ensures v) in
     let look = subst (λ o. Goes s t v (answered (Machine.looked_up v (sites_of s) s.site (places_of s) (over s s.continuation) c.in-Label.site c.in-Label.label o) (lacking no_place (state_of s)))) (sym e) g in
     subst (λ f. Goes s t v (answered (valued v s f) (lacking no_place (state_of s)))) (sym found) look

@@ -1,4 +1,4 @@
-use Rattle.std.proofs.Common.{◌≡◌, length, vec_items, sym, refl, ap, ◌∙◌, subst}
+use Rattle.std.proofs.Common.{◌≡◌, length, vec_items, sym, subst}
 use Rattle.calculus.specs.Machine
 use Rattle.calculus.specs.Program.{Program}
 use Rattle.calculus.specs.Step.{Works}
@@ -6,7 +6,7 @@ use Rattle.calculus.specs.Limits.{lacking, no_place}
 use Rattle.machine.specs.Meaning.{state_of, sites_of, places_of}
 use Rattle.machine.specs.Sound.{TaskIn}
 use Rattle.machine.specs.Answers.{Goes, Ends, Lands, answered, shown, held, over, framed, worked, of_terms}
-use Rattle.machine.proofs.Sorts.{wants_number, wants_function, wants_code, wants_address, wants_pair, chosen_numbers}
+use Rattle.machine.proofs.Sorts.{wants_function, wants_code, wants_address, wants_pair, chosen_numbers}
 use Rattle.machine.specs.declared.parts.Continuation.{Continuation}
 use Rattle.machine.specs.declared.parts.Task.{Task}
 use Rattle.machine.specs.declared.parts.Value.{Value}
@@ -36,8 +36,8 @@ unbox-requires g c =
     let P = of_terms c.args.program.now in
     record { state = c.requires.state; value = c.requires.value; next = c.requires.next; kind = wants_code s.stations (held s c.args.value) _ (live_at v s P c.args.next c.args.value c.in-Unbox.is c.requires.live) }
 
-pub open-address-requires : goal.open-address-requires
-open-address-requires g c =
+pub open_address-requires : goal.open_address-requires
+open_address-requires g c =
     let s = c.args.self.now in
     let v = shown (g.W.Gauges.readings c.args.works.now) (g.W.Works.settings c.args.works.now) in
     let P = of_terms c.args.program.now in
@@ -73,7 +73,7 @@ returns-in-Open g c =
     let s = c.args.self.now in
     let v = shown (g.W.Gauges.readings c.args.works.now) (g.W.Works.settings c.args.works.now) in
     let P = of_terms c.args.program.now in
-    subst (λ t. Ends c.open-address.result s c.open-address.new.self v v (worked v s P c.args.next c.args.value t)) (sym c.in-Open.is) (c.open-address.ensures v P)
+    subst (λ t. Ends c.open_address.result s c.open_address.new.self v v (worked v s P c.args.next c.args.value t)) (sym c.in-Open.is) (c.open_address.ensures v P)
 
 pub returns-in-First : goal.returns-in-First
 returns-in-First g c =
@@ -81,8 +81,8 @@ returns-in-First g c =
     let v = shown (g.W.Gauges.readings c.args.works.now) (g.W.Works.settings c.args.works.now) in
     let P = of_terms c.args.program.now in
     let l = lacking no_place (state_of s) in
-    let G : Machine.Value → Type 0 = λ u. Goes s c.go-on.new.self v (answered (Machine.when_pair u (λ a b. Machine.next v (sites_of s) s.site (places_of s) (over s c.args.next) (Machine.back a))) l) in
-    subst (λ t. Goes s c.go-on.new.self v (worked v s P c.args.next c.args.value t)) (sym c.in-First.is) (subst G (sym c.halves-left.ensures.is) (c.go-on.ensures v))
+    let G : Machine.Value → Type 0 = λ u. Goes s c.go_on.new.self v (answered (Machine.when_pair u (λ a b. Machine.next v (sites_of s) s.site (places_of s) (over s c.args.next) (Machine.back a))) l) in
+    subst (λ t. Goes s c.go_on.new.self v (worked v s P c.args.next c.args.value t)) (sym c.in-First.is) (subst G (sym c.halves-left.ensures.is) (c.go_on.ensures v))
 
 pub returns-in-Second : goal.returns-in-Second
 returns-in-Second g c =
@@ -90,9 +90,9 @@ returns-in-Second g c =
     let v = shown (g.W.Gauges.readings c.args.works.now) (g.W.Works.settings c.args.works.now) in
     let P = of_terms c.args.program.now in
     let l = lacking no_place (state_of s) in
-    let t = c.go-on-in-Second.new.self in
+    let t = c.go_on-in-Second.new.self in
     let G : Machine.Value → Type 0 = λ u. Goes s t v (answered (Machine.when_pair u (λ a b. Machine.next v (sites_of s) s.site (places_of s) (over s c.args.next) (Machine.back b))) l) in
-    subst (λ x. Goes s t v (worked v s P c.args.next c.args.value x)) (sym c.in-Second.is) (subst G (sym c.halves-right.ensures.is) (c.go-on-in-Second.ensures v))
+    subst (λ x. Goes s t v (worked v s P c.args.next c.args.value x)) (sym c.in-Second.is) (subst G (sym c.halves-right.ensures.is) (c.go_on-in-Second.ensures v))
 
 pub returns-in-Compared : goal.returns-in-Compared
 returns-in-Compared g c =

@@ -9,7 +9,7 @@ pub returns : goal.returns
 returns c =
     let out = c.args.out.now in
     let line = stand_line (counted c.stand-stand.result) in
-    let t = c.in-ok-put-2.ensures.ended in
+    let t = c.in_ok-put-2.ensures.ended in
     record {
       value = fills line out c.new-pen.result c.new-pen.ensures.at c.new-pen.ensures.limit t ∙ ap (λ (s : Stand). written (stand_line s) out) c.stand-stand.ensures;
       after = fills_after line out c.new-pen.result c.new-pen.ensures.at c.new-pen.ensures.limit t ∙ ap (λ (s : Stand). written_after (stand_line s) out) c.stand-stand.ensures;

@@ -1,23 +1,23 @@
-use Rattle.std.proofs.Common.{◌≡◌, vec_items, sym, ap, ◌∙◌}
+use Rattle.std.proofs.Common.{vec_items, sym, ap, ◌∙◌}
 use Rattle.machine.specs.Meaning.{meanings, environment_of}
 use Rattle.machine.specs.Lookups.{sought}
 use Rattle.machine.proofs.Walks.{walk_pair, walk_here, walk_on, walk_in}
 use Rattle.machine.proofs.parts.Store.bound_at.Goals as goal
 
-pub returns-in-default-cell : goal.returns-in-default-cell
-returns-in-default-cell c =
+pub returns-in_default-cell : goal.returns-in_default-cell
+returns-in_default-cell c =
     let cs = vec_items c.args.self.now.cells in
     let here = ap (λ e. sought c.args.kind (environment_of (meanings cs) e) c.loop-at.left) c.in-Cell.is in
-    record { within = tt; found = sym c.loop-at.invariant.1 ∙ here ∙ walk_pair cs c.requires.cells c.in-Cell.place c.args.kind c.in-default-cell.field-0 c.in-default-cell.field-1 c.loop-at.left c.in-default-cell.ensures }
+    record { within = tt; found = sym c.loop-at.invariant.1 ∙ here ∙ walk_pair cs c.requires.cells c.in-Cell.place c.args.kind c.in_default-cell.field-0 c.in_default-cell.field-1 c.loop-at.left c.in_default-cell.ensures }
 
-pub returns-in-default-pass : goal.returns-in-default-pass
-returns-in-default-pass c =
+pub returns-in_default-pass : goal.returns-in_default-pass
+returns-in_default-pass c =
     let cs = vec_items c.args.self.now.cells in
     let here = ap (λ e. sought c.args.kind (environment_of (meanings cs) e) c.loop-at.left) c.in-Cell.is in
     let e = c.in-Binding.ensures in
     record {
       within = (walk_in cs c.requires.cells c.in-Cell.place c.args.kind c.in-Binding.bound c.in-Binding.rest e).0;
-      found = sym c.loop-at.invariant.1 ∙ here ∙ walk_here cs c.requires.cells c.in-Cell.place c.args.kind c.in-Binding.bound c.in-Binding.rest e c.loop-at.left (sym c.in-default-pass.ensures);
+      found = sym c.loop-at.invariant.1 ∙ here ∙ walk_here cs c.requires.cells c.in-Cell.place c.args.kind c.in-Binding.bound c.in-Binding.rest e c.loop-at.left (sym c.in_default-pass.ensures);
     }
 
 pub loop-at-smaller : goal.loop-at-smaller

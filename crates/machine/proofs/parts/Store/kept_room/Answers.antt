@@ -5,4 +5,4 @@ use Rattle.lines.specs.declared.refusal.Table.TheVariants.{Kept}
 use Rattle.machine.proofs.parts.Store.kept_room.Goals as goal
 
 pub returns : goal.returns
-returns c = subst (λ o. Fits c.kept-room.result Kept 256 (kept_in o + 1)) (sym (elem_getD c.args.self.now.rows c.args.site c.index-self-site.result c.requires)) c.kept-room.ensures
+returns c = subst (λ o. Fits c.kept_room.result Kept 256 (kept_in o + 1)) (sym (elem_getD c.args.self.now.rows c.args.site c.index-self-site.result c.requires)) c.kept_room.ensures

@@ -3,4 +3,4 @@ use Rattle.machine.proofs.Growth.{elem_getD}
 use Rattle.machine.proofs.parts.Store.published.Goals as goal
 
 pub returns : goal.returns
-returns c = (get_or c.args.self.now.rows c.args.site c.index-self-site.result, elem_getD _ _ _ c.requires, c.published-at.ensures)
+returns c = (get_or c.args.self.now.rows c.args.site c.index-self-site.result, elem_getD _ _ _ c.requires, c.published_at.ensures)

@@ -5,4 +5,4 @@ use Rattle.lines.specs.declared.refusal.Table.TheVariants.{Published}
 use Rattle.machine.proofs.parts.Store.published_room.Goals as goal
 
 pub returns : goal.returns
-returns c = subst (λ o. Fits c.published-room.result Published 128 (published_in o + 1)) (sym (elem_getD c.args.self.now.rows c.args.site c.index-self-site.result c.requires)) c.published-room.ensures
+returns c = subst (λ o. Fits c.published_room.result Published 128 (published_in o + 1)) (sym (elem_getD c.args.self.now.rows c.args.site c.index-self-site.result c.requires)) c.published_room.ensures

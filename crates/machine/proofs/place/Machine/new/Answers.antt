@@ -1,5 +1,5 @@
-use Rattle.std.proofs.Common.{refl, arith, rules}
+use Rattle.std.proofs.Common.{refl, rules}
 use Rattle.machine.proofs.place.Machine.new.Goals as goal
 
-pub invariant-of-result : goal.invariant-of-result
-invariant-of-result c = (search rules, (search rules, (refl, (∣ c.started-state.ensures.state ∣₁, tt))))
+pub invariant_of-result : goal.invariant_of-result
+invariant_of-result c = record { types_room = search rules; terms_room = search rules; whole = refl; ok = ∣ c.started-state.ensures.state ∣₁ }

@@ -25,26 +25,26 @@ module _ (s : Stand) where
   abbrev from_phase : List ℕ
   from_phase = phase_text (work_of s.work) ++ from_frames
 
-pub returns-in-err-numbered : goal.returns-in-err-numbered
-returns-in-err-numbered c = stops (codes "(stand " ++ decimal c.args.self.site) (codes " " ++ from_phase c.args.self) c.from-residual.ensures.0 c.in-err-numbered.ensures.ended
+pub returns-in_err-numbered : goal.returns-in_err-numbered
+returns-in_err-numbered c = stops (codes "(stand " ++ decimal c.args.self.site) (codes " " ++ from_phase c.args.self) c.from_residual.ensures.0 c.in_err-numbered.ensures.ended
 
-pub returns-in-err-word : goal.returns-in-err-word
-returns-in-err-word c = then c.in-ok-numbered.ensures.ended (stops (codes " ") (from_phase c.args.self) c.from-residual-in-err-word.ensures.0 c.in-err-word.ensures.writes.ended)
+pub returns-in_err-word : goal.returns-in_err-word
+returns-in_err-word c = then c.in_ok-numbered.ensures.ended (stops (codes " ") (from_phase c.args.self) c.from_residual-in_err-word.ensures.0 c.in_err-word.ensures.writes.ended)
 
-pub returns-in-err-put : goal.returns-in-err-put
-returns-in-err-put c = then c.in-ok-numbered.ensures.ended (then c.in-ok-word.ensures.writes.ended (stops (phase_text (work_of c.args.self.work)) (from_frames c.args.self) c.from-residual-in-err-put.ensures.0 c.in-err-put.ensures.ended))
+pub returns-in_err-put : goal.returns-in_err-put
+returns-in_err-put c = then c.in_ok-numbered.ensures.ended (then c.in_ok-word.ensures.writes.ended (stops (phase_text (work_of c.args.self.work)) (from_frames c.args.self) c.from_residual-in_err-put.ensures.0 c.in_err-put.ensures.ended))
 
-pub returns-in-err-numbered-2 : goal.returns-in-err-numbered-2
-returns-in-err-numbered-2 c = then c.in-ok-numbered.ensures.ended (then c.in-ok-word.ensures.writes.ended (then c.in-ok-put.ensures.ended (stops (spaced c.args.self.frames) (from_kept c.args.self) c.from-residual-in-err-numbered-2.ensures.0 c.in-err-numbered-2.ensures.ended)))
+pub returns-in_err-numbered-2 : goal.returns-in_err-numbered-2
+returns-in_err-numbered-2 c = then c.in_ok-numbered.ensures.ended (then c.in_ok-word.ensures.writes.ended (then c.in_ok-put.ensures.ended (stops (spaced c.args.self.frames) (from_kept c.args.self) c.from_residual-in_err-numbered-2.ensures.0 c.in_err-numbered-2.ensures.ended)))
 
-pub returns-in-err-numbered-3 : goal.returns-in-err-numbered-3
-returns-in-err-numbered-3 c = then c.in-ok-numbered.ensures.ended (then c.in-ok-word.ensures.writes.ended (then c.in-ok-put.ensures.ended (then c.in-ok-numbered-2.ensures.ended (stops (spaced c.args.self.kept) (from_published c.args.self) c.from-residual-in-err-numbered-3.ensures.0 c.in-err-numbered-3.ensures.ended))))
+pub returns-in_err-numbered-3 : goal.returns-in_err-numbered-3
+returns-in_err-numbered-3 c = then c.in_ok-numbered.ensures.ended (then c.in_ok-word.ensures.writes.ended (then c.in_ok-put.ensures.ended (then c.in_ok-numbered-2.ensures.ended (stops (spaced c.args.self.kept) (from_published c.args.self) c.from_residual-in_err-numbered-3.ensures.0 c.in_err-numbered-3.ensures.ended))))
 
-pub returns-in-err-numbered-4 : goal.returns-in-err-numbered-4
-returns-in-err-numbered-4 c = then c.in-ok-numbered.ensures.ended (then c.in-ok-word.ensures.writes.ended (then c.in-ok-put.ensures.ended (then c.in-ok-numbered-2.ensures.ended (then c.in-ok-numbered-3.ensures.ended (stops (spaced c.args.self.published) (from_touched c.args.self) c.from-residual-in-err-numbered-4.ensures.0 c.in-err-numbered-4.ensures.ended)))))
+pub returns-in_err-numbered-4 : goal.returns-in_err-numbered-4
+returns-in_err-numbered-4 c = then c.in_ok-numbered.ensures.ended (then c.in_ok-word.ensures.writes.ended (then c.in_ok-put.ensures.ended (then c.in_ok-numbered-2.ensures.ended (then c.in_ok-numbered-3.ensures.ended (stops (spaced c.args.self.published) (from_touched c.args.self) c.from_residual-in_err-numbered-4.ensures.0 c.in_err-numbered-4.ensures.ended)))))
 
-pub returns-in-err-numbered-5 : goal.returns-in-err-numbered-5
-returns-in-err-numbered-5 c = then c.in-ok-numbered.ensures.ended (then c.in-ok-word.ensures.writes.ended (then c.in-ok-put.ensures.ended (then c.in-ok-numbered-2.ensures.ended (then c.in-ok-numbered-3.ensures.ended (then c.in-ok-numbered-4.ensures.ended (stops (spaced c.args.self.touched) (codes ")\n") c.from-residual-in-err-numbered-5.ensures.0 c.in-err-numbered-5.ensures.ended))))))
+pub returns-in_err-numbered-5 : goal.returns-in_err-numbered-5
+returns-in_err-numbered-5 c = then c.in_ok-numbered.ensures.ended (then c.in_ok-word.ensures.writes.ended (then c.in_ok-put.ensures.ended (then c.in_ok-numbered-2.ensures.ended (then c.in_ok-numbered-3.ensures.ended (then c.in_ok-numbered-4.ensures.ended (stops (spaced c.args.self.touched) (codes ")\n") c.from_residual-in_err-numbered-5.ensures.0 c.in_err-numbered-5.ensures.ended))))))
 
 pub returns : goal.returns
-returns c = then c.in-ok-numbered.ensures.ended (then c.in-ok-word.ensures.writes.ended (then c.in-ok-put.ensures.ended (then c.in-ok-numbered-2.ensures.ended (then c.in-ok-numbered-3.ensures.ended (then c.in-ok-numbered-4.ensures.ended (then c.in-ok-numbered-5.ensures.ended c.word-2.ensures.writes))))))
+returns c = then c.in_ok-numbered.ensures.ended (then c.in_ok-word.ensures.writes.ended (then c.in_ok-put.ensures.ended (then c.in_ok-numbered-2.ensures.ended (then c.in_ok-numbered-3.ensures.ended (then c.in_ok-numbered-4.ensures.ended (then c.in_ok-numbered-5.ensures.ended c.word-2.ensures.writes))))))
