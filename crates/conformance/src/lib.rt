@@ -8,6 +8,8 @@ mod checks;
 #[cfg(test)]
 mod images;
 #[cfg(test)]
+mod machines;
+#[cfg(test)]
 mod refusals;
 #[cfg(test)]
 mod surveys;
