@@ -1,4 +1,4 @@
-use Rattle.std.proofs.Common.{Err, sym, refl, ap, ◌∙◌}
+use Rattle.std.proofs.Common.{Err, sym, refl, ap, ◌∙◌, rules}
 use Rattle.std.proofs.lemmas.Result.{err_from_is_err_and}
 use Rattle.lines.specs.declared.refusal.Refusal.{Refusal}
 use Rattle.syntax.specs.Place.{tables}
@@ -34,7 +34,7 @@ returns c =
     let k = c.in_ok-ty.ensures.concluded.answer.0 in
     record {
       value = sym (ap answered e ∙ ap answer k);
-      after = c.fill.ensures.place ∙ sym (ap (checked_into q) e ∙ ap (filled q P) k);
-      height = c.fill.ensures.height ∙ c.conclude.ensures.height;
+      after = search rules ∙ sym (ap (checked_into q) e ∙ ap (filled q P) k);
+      height = search rules ∙ c.conclude.ensures.height;
       decides = check_decides;
     }
