@@ -1,5 +1,5 @@
 -- What a run of a machine in its place answers and leaves.
-use Rattle.std.proofs.Common.{◌≡◌, ℕ, true, false, Ok, Err, Result, sym, refl, ap, ◌∙◌, arith}
+use Rattle.std.proofs.Common.{◌≡◌, ℕ, Ok, Err, Result, sym, refl, ap, ◌∙◌}
 use mathlib.Core.Option.{some, none as nothing}
 use Rattle.lines.specs.declared.refusal.Refusal.{Refusal}
 use Rattle.lines.specs.declared.refusal.Refusal.TheVariants.{AnotherSheet, Run as Stopped}
@@ -17,7 +17,7 @@ use Rattle.calculus.specs.Step.{Works}
 use Rattle.calculus.specs.Run.{execute}
 use Rattle.calculus.specs.Marks.{Marks}
 use Rattle.calculus.specs.Marked.{Marked, MarkedCall, run_marked}
-use Rattle.calculus.specs.Calls.{sheet_of, differing, answer_of, says, refuses, answer_by, answer_from}
+use Rattle.calculus.specs.Calls.{sheet_of, differing, answer_of}
 use Rattle.calculus.proofs.Marked.{marked_to, run_same, run_other}
 use Rattle.machine.specs.Answers.{of_terms, instrument_of, kind}
 use Rattle.machine.specs.Runs.{fault_ending}
@@ -93,20 +93,3 @@ module _ (X : Marked) (v : Works) (b : ℕ) (same : nothing ≡ differing X.prog
 -- a run that is refused for the sheet changes nothing
 pub run_differs : (X : Marked) (v : Works) (b s : ℕ) → some s ≡ differing X.program.sheet (sheet_of v) → (Err (AnotherSheet s) ≡ run_answered (run_marked (some X) v b).answer) × (some X ≡ (run_marked (some X) v b).place) × (v ≡ (run_marked (some X) v b).works)
 run_differs X v b s e = let w = run_other X v b s (sym e) in (sym (ap (λ (c : MarkedCall). run_answered c.answer) w), sym (ap (λ (c : MarkedCall). c.place) w), sym (ap (λ (c : MarkedCall). c.works) w))
-
--- an answer is there once work is done
-pub not_done : (M : Machine.State) → Machine.is_finished M ≡ false → answer_from M ≡ refuses 33
-not_done (Machine.state H w k (Machine.eval p ρ) c) e = refl
-not_done (Machine.state H w Machine.finish (Machine.back u) c) e = absurd (grind arith)
-not_done (Machine.state H w Machine.abort (Machine.back u) c) e = refl
-not_done (Machine.state H w (Machine.return s d) (Machine.back u) c) e = refl
-not_done (Machine.state H w (Machine.push f k) (Machine.back u) c) e = refl
-
-pub done_says : (H : Machine.Sites) (w : ℕ) (k : Machine.Continuation) (u : Machine.Value) (c : Machine.Places) → Machine.is_finished (Machine.state H w k (Machine.back u) c) ≡ true → answer_by k (Machine.back u) ≡ says u
-done_says H w Machine.finish u c e = refl
-done_says H w Machine.abort u c e = absurd (grind arith)
-done_says H w (Machine.return s d) u c e = absurd (grind arith)
-done_says H w (Machine.push f k) u c e = absurd (grind arith)
-
-pub never_evaluating : (H : Machine.Sites) (w : ℕ) (k : Machine.Continuation) (p : ℕ) (ρ : Machine.Environment) (c : Machine.Places) → Machine.is_finished (Machine.state H w k (Machine.eval p ρ) c) ≡ true → ⊥
-never_evaluating H w k p ρ c e = grind arith

@@ -1,9 +1,7 @@
 -- What an accepted program gives a machine that starts it.
-use Rattle.std.proofs.Common.{◌≡◌, ℕ, zero, suc, ◌+◌, ◌<◌, ◌≤◌, Bool, true, false, List, [], ◌∷◌, length, take, length-take, get_or, Ok, Err, sym, refl, ap, ◌∙◌, subst, arith}
+use Rattle.std.proofs.Common.{◌≡◌, ℕ, zero, suc, ◌+◌, ◌<◌, ◌≤◌, Bool, true, false, List, [], ◌∷◌, length, take, length-take, get_or, Ok, sym, refl, ap, ◌∙◌, subst, arith}
 use mathlib.Core.Option.{Option, some}
 use mathlib.Core.Logic.{∥∥₁_elim}
-use Rattle.lines.specs.declared.refusal.Refusal.{Refusal}
-use Rattle.lines.specs.declared.refusal.Refusal.TheVariants.{Nothing}
 use Rattle.instruments.specs.declared.sheet.Station.{Station}
 use Rattle.instruments.specs.Fitted.{Fitted}
 use Rattle.calculus.specs.Types.{gauges_there, gates_there}
@@ -116,19 +114,6 @@ module _ (types : List TypeRow) (terms : List TermRow) (stations : List Station)
   pub start_tells : OnLimits stations → (Q : Place) → Views Q types terms start → Carries Q → Ok stations ≡ place_stations Q → (p : Option Marked) → (Ok tt ≡ start_answered Q) × (some (start_marked copied) ≡ started_into p Q) × LawOf Q × MarksLawOf Q
   start_tells few empty w k q p = absurd w
   start_tells few (full P A) w k q p = (refl, ap (λ (x : Program). some (start_marked x)) (is_copy P A w q), log_law P A (ordered P k.0) k.1, marks_law P (subst (λ (p : Program). OnLimits p.sheet) (is_copy P A w q) few))
-
-pub start_nothing : (Q : Place) (p : Option Marked) → Q ≡ empty → (Err Nothing ≡ start_answered Q) × (p ≡ started_into p Q) × LawOf Q × MarksLawOf Q
-start_nothing empty p e = (refl, refl, tt, tt)
-start_nothing (full P A) p e = absurd (let z : ◌≡◌ {A = ℕ} 0 1 = cc in omega arith)
-
-pub start_refused : (Q : Place) (p : Option Marked) (e : Refusal) → Err e ≡ place_stations Q → (Err e ≡ start_answered Q) × (p ≡ started_into p Q) × LawOf Q × MarksLawOf Q
-start_refused empty p e q = (cc, refl, tt, tt)
-start_refused (full P A) p e q = absurd (let z : ◌≡◌ {A = ℕ} 0 1 = cc in omega arith)
-
--- what a place carries comes out again
-pub kept_prop : (b : Bool) (ts : List TermRow) (S : List Station) (s : State) → IsProp (Kept b ts S s)
-kept_prop true ts S s = holds_prop (of_terms ts) S s
-kept_prop false ts S s = state_prop s
 
 kept_in : (b : Bool) (ts : List TermRow) (S : List Station) (s : State) → Kept b ts S s → StateIn s
 kept_in true ts S s k = k.state_in

@@ -6,17 +6,28 @@ use Rattle.syntax.specs.declared.program.Term.{Term as TermRow}
 use Rattle.syntax.specs.declared.program.Term.TheVariants as Row
 use Rattle.calculus.specs.Machine
 use Rattle.calculus.specs.Program.{Program, body_of}
-use Rattle.calculus.specs.Step.{Works, a_gauge, a_gate, Event, quiet, looked, was_read, was_set}
+use Rattle.calculus.specs.Step.{Works, Instrument, a_gauge, a_gate, Event, quiet, looked, was_read, was_set}
 use Rattle.calculus.specs.Tables.{entry, count, row}
-use Rattle.calculus.specs.Marks.{Marks, marks_after}
+use Rattle.calculus.specs.Marks.{Marks, marks_after, with_mark}
+use Rattle.calculus.specs.Run.Register.{register}
 use Rattle.machine.specs.Answers.{went, answered, Lands}
 use Rattle.lines.specs.declared.refusal.Instrument.{Instrument as Named}
 use Rattle.machine.specs.Marks.{instrument_named}
-use Rattle.machine.specs.Touching.{marked_by, gauge_read, gate_set, touching, NumberFits, of_kind, with_touched, TouchedFits}
+use Rattle.machine.specs.Touching.{marked_by, gauge_read, gate_set, of_kind, with_touched, TouchedFits}
 use Rattle.machine.specs.Meaning.{Meaning, task_of, value_of, environment_of}
 use Rattle.machine.proofs.Growth.{elem_below}
 use Rattle.machine.specs.declared.parts.Task.{Task}
 use Rattle.machine.specs.declared.parts.Task.TheVariants as Does
+
+-- the marks with that of a register of a site, if there is one
+abbrev pub touching : Instrument → Option ℕ → ℕ → Marks → Marks
+touching κ nothing s ms = ms
+touching κ (some n) s ms = with_mark (register κ s n) ms
+
+-- a register's number is one that a works may have
+abbrev pub NumberFits : Option ℕ → Type 0
+NumberFits nothing = Unit {0}
+NumberFits (some n) = n < 32
 
 -- one step's marks, and then the others'
 pub marks_cons : (e : Event) (es : List Event) (ms : Marks) → marks_after (e ∷ es) ms ≡ marks_after es (marks_after (e ∷ []) ms)
@@ -136,9 +147,6 @@ module _ (v : Works) (H : Machine.Sites) (w : ℕ) (c : Machine.Places) (ms : Ma
   task_marks P cs k x (Does.Compare b y z e) l L u q = refl
   task_marks P cs k x (Does.Compared a y z e) l L u q = number_quiet (value_of cs a) (λ m. Machine.when_number x (λ n. Machine.next v H w c k (Machine.eval (cond (ltb m n) y z) (environment_of cs e)))) (λ m. number_quiet x (λ n. Machine.next v H w c k (Machine.eval (cond (ltb m n) y z) (environment_of cs e))) (λ n. refl))
   task_marks P cs k x (Does.Set n) l L u q = set_marks k n x l L u q
-
-  pub return_marks : (s : ℕ) (p : Machine.Phase) (o : Option Machine.Continuation) → marked_by (Machine.resume v H w c s p o) ms ≡ ms
-  return_marks = resume_quiet
 
 -- A register that a step needs is on the works.
 module _ (v : Works) (H : Machine.Sites) (w : ℕ) (c : Machine.Places) (m : ℕ) where

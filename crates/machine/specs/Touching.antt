@@ -7,7 +7,7 @@ use Rattle.syntax.specs.declared.program.Term.{Term as TermRow}
 use Rattle.syntax.specs.declared.program.Term.TheVariants as Row
 use Rattle.calculus.specs.Machine
 use Rattle.calculus.specs.Program.{Program}
-use Rattle.calculus.specs.Step.{Works, Instrument}
+use Rattle.calculus.specs.Step.{Works}
 use Rattle.calculus.specs.Tables.{row}
 use Rattle.calculus.specs.Marks.{Marks, with_mark, marks_after}
 use Rattle.calculus.specs.Run.Register.{register}
@@ -65,16 +65,6 @@ gate_set Does.Second = nothing
 gate_set (Does.Compare b x y e) = nothing
 gate_set (Does.Compared a x y e) = nothing
 gate_set (Does.Set n) = some n
-
--- the marks with that of a register of a site, if there is one
-abbrev pub touching : Instrument → Option ℕ → ℕ → Marks → Marks
-touching κ nothing s ms = ms
-touching κ (some n) s ms = with_mark (register κ s n) ms
-
--- a register's number is one that a works may have
-abbrev pub NumberFits : Option ℕ → Type 0
-NumberFits nothing = Unit {0}
-NumberFits (some n) = n < 32
 
 -- a register of that kind, if there is a number of one
 abbrev pub of_kind : Named → Option ℕ → Maybe Touched
