@@ -48,11 +48,12 @@ abbrev pub register_code : RegisterFault → Code
 register_code (NotFitted site number) = record { number = 40; first = site; others = number ∷ [] }
 register_code (Silent site number) = record { number = 41; first = site; others = number ∷ [] }
 
--- the site and the number of a register that does not answer
+-- the site of a register that does not answer
 abbrev pub site_named : RegisterFault → ℕ
 site_named (NotFitted site number) = site
 site_named (Silent site number) = site
 
+-- the number of a register that does not answer
 abbrev pub number_named : RegisterFault → ℕ
 number_named (NotFitted site number) = number
 number_named (Silent site number) = number
@@ -76,6 +77,7 @@ abbrev step_code : StepFault → ℕ → ℕ → Code
 step_code (Unheard r) site steps = record { number = 31; first = site_named r.fault; others = instrument_kind r.instrument ∷ (number_named r.fault ∷ (steps ∷ [])) }
 step_code (Full table) site steps = record { number = 32; first = table_kind table; others = site ∷ (steps ∷ []) }
 
+-- a run: the fault of its last step, with the site and the steps that it carries
 abbrev pub run_code : RunFault → Code
 run_code r = step_code r.fault r.site r.steps
 

@@ -10,9 +10,8 @@ use Rattle.calculus.specs.Step.{Works, Instrument, a_gauge, a_gate, Event, quiet
 use Rattle.calculus.specs.Tables.{entry, count, row}
 use Rattle.calculus.specs.Marks.{Marks, marks_after, with_mark}
 use Rattle.calculus.specs.Run.Register.{register}
-use Rattle.machine.specs.Answers.{went, answered, Lands}
+use Rattle.machine.specs.Answers.{went, answered, Lands, instrument_of}
 use Rattle.lines.specs.declared.refusal.Instrument.{Instrument as Named}
-use Rattle.machine.specs.Marks.{instrument_named}
 use Rattle.machine.specs.Touching.{marked_by, gauge_read, gate_set, of_kind, with_touched, TouchedFits}
 use Rattle.machine.specs.Meaning.{Meaning, task_of, value_of, environment_of}
 use Rattle.machine.proofs.Growth.{elem_below}
@@ -204,7 +203,7 @@ module _ (v : Works) (H : Machine.Sites) (w : ℕ) (c : Machine.Places) (m : ℕ
   task_fits P cs k x (Does.Set n) few h = set_fits k n x few h
 
 -- a register by its kind and its number, as the code names it
-pub kind_marks : (κ : Named) (o : Option ℕ) (s : ℕ) (ms : Marks) → touching (instrument_named κ) o s ms ≡ with_touched (of_kind κ o) s ms
+pub kind_marks : (κ : Named) (o : Option ℕ) (s : ℕ) (ms : Marks) → touching (instrument_of κ) o s ms ≡ with_touched (of_kind κ o) s ms
 kind_marks κ nothing s ms = refl
 kind_marks κ (some n) s ms = refl
 

@@ -1,9 +1,6 @@
 -- Marks of registers, in bytes.
 use Rattle.std.specs.Prelude.{ℕ, zero, suc, ◌/◌, ◌%◌, Bool, List, [], ◌∷◌, ◌++◌, ◌==◌}
-use Rattle.calculus.specs.Step.{Instrument, a_gauge, a_gate}
 use Rattle.calculus.specs.Marks.{Marks}
-use Rattle.lines.specs.declared.refusal.Instrument.{Instrument as Named}
-use Rattle.lines.specs.declared.refusal.Instrument.TheVariants.{Gauge, Gate}
 
 -- the lowest so many bits of a number, the lowest first
 abbrev pub low_bits : ℕ → ℕ → List Bool
@@ -14,8 +11,3 @@ low_bits (suc k) n = (n % 2 == 1) ∷ low_bits k (n / 2)
 abbrev pub bits_of : List ℕ → Marks
 bits_of [] = []
 bits_of (b ∷ bs) = low_bits 8 b ++ bits_of bs
-
--- a gauge or a gate, by its name
-abbrev pub instrument_named : Named → Instrument
-instrument_named Gauge = a_gauge
-instrument_named Gate = a_gate

@@ -11,9 +11,8 @@ use Rattle.calculus.specs.Step.{Works}
 use Rattle.calculus.specs.Tables.{row}
 use Rattle.calculus.specs.Marks.{Marks, with_mark, marks_after}
 use Rattle.calculus.specs.Run.Register.{register}
-use Rattle.machine.specs.Marks.{instrument_named}
 use Rattle.machine.specs.Meaning.{state_of}
-use Rattle.machine.specs.Answers.{went, stepped_on, Lands}
+use Rattle.machine.specs.Answers.{went, stepped_on, Lands, instrument_of}
 use Rattle.machine.specs.declared.marking.Touched.{Touched}
 use Rattle.machine.specs.declared.parts.State.{State}
 use Rattle.machine.specs.declared.parts.Task.{Task}
@@ -71,10 +70,10 @@ abbrev pub of_kind : Named → Option ℕ → Maybe Touched
 of_kind κ nothing = None
 of_kind κ (some n) = Some (record { instrument = κ; number = n })
 
--- the marks with that of a register of a site, if there is one, as the code names it
+-- the marks, with the mark of the register of a site that the code names, if it names one
 abbrev pub with_touched : Maybe Touched → ℕ → Marks → Marks
 with_touched None s ms = ms
-with_touched (Some t) s ms = with_mark (register (instrument_named t.instrument) s t.number) ms
+with_touched (Some t) s ms = with_mark (register (instrument_of t.instrument) s t.number) ms
 
 -- its number is one that a works may have
 abbrev pub TouchedFits : Maybe Touched → Type 0

@@ -2,7 +2,8 @@
 ghost use Rattle.std.specs.Prelude.{◌≡◌, ◌<◌, length};
 ghost use Rattle.calculus.specs.Marks.{with_mark, marks_set};
 ghost use Rattle.calculus.specs.Run.Register.{register};
-ghost use Rattle.machine.specs.Marks.{bits_of, instrument_named};
+ghost use Rattle.machine.specs.Answers.{instrument_of};
+ghost use Rattle.machine.specs.Marks.{bits_of};
 
 use lines::refusal::Instrument;
 
@@ -11,7 +12,7 @@ pub(crate) fn mark(marks: &mut [u8], instrument: Instrument, site: u16, number: 
     requires whole { length marks.old ≡ 128 }
     requires site { site < 16 }
     requires number { number < 32 }
-    ensures marks { bits_of marks.new ≡ with_mark (register (instrument_named instrument) site number) (bits_of marks.old) }
+    ensures marks { bits_of marks.new ≡ with_mark (register (instrument_of instrument) site number) (bits_of marks.old) }
     ensures whole { length marks.new ≡ 128 }
 {
     let first = match instrument {

@@ -2,7 +2,8 @@ use Rattle.std.proofs.Common.{◌≡◌, ℕ, ◌+◌, ◌*◌, ◌<◌, true, l
 use Rattle.calculus.specs.Run.{register}
 use Rattle.calculus.specs.Marks.{mark_of}
 use Rattle.lines.specs.declared.refusal.Instrument.{Instrument}
-use Rattle.machine.specs.Marks.{bits_of, instrument_named}
+use Rattle.machine.specs.Answers.{instrument_of}
+use Rattle.machine.specs.Marks.{bits_of}
 use Rattle.machine.proofs.Marked.{index_marked}
 use Rattle.machine.proofs.marks.mark.Goals as goal
 use Rattle.machine.proofs.marks.mark.Goals.{in-Gauge, in-Gate}
@@ -11,7 +12,7 @@ pub returns : goal.returns
 returns c =
     let bs = c.args.marks.now in
     let m : ℕ = c.match-instrument.first + c.args.number in
-    let mark : Instrument → ℕ = λ i. mark_of (register (instrument_named i) c.args.site c.args.number) in
+    let mark : Instrument → ℕ = λ i. mark_of (register (instrument_of i) c.args.site c.args.number) in
     let index : m ≡ mark c.args.instrument = elim c.match-instrument.branch [
       | in-Gauge w ↦ ap (λ (n : ℕ). n + c.args.number) w.first-is ∙ ap mark (sym w.in-Gauge.is)
       | in-Gate w ↦ ap (λ (n : ℕ). n + c.args.number) w.first-is ∙ ap mark (sym w.in-Gate.is)
