@@ -31,7 +31,7 @@ use Rattle.checker.proofs.Whole.{sorted_types}
 use Rattle.machine.specs.Answers.{of_terms}
 use Rattle.machine.specs.Meaning.{state_of}
 use Rattle.machine.specs.Sound.{StateIn}
-use Rattle.machine.specs.Safe.{Holds, Kept}
+use Rattle.machine.specs.Safe.{Holds, Carried}
 use Rattle.machine.specs.Calls.{start_answered, started_into, LawOf, MarksLawOf}
 use Rattle.machine.proofs.Props.{holds_prop, state_prop}
 use Rattle.machine.proofs.Typed.{started_holds}
@@ -115,13 +115,13 @@ module _ (types : List TypeRow) (terms : List TermRow) (stations : List Station)
   start_tells few empty w k q p = absurd w
   start_tells few (full P A) w k q p = (refl, ap (λ (x : Program). some (start_marked x)) (is_copy P A w q), log_law P A (ordered P k.0) k.1, marks_law P (subst (λ (p : Program). OnLimits p.sheet) (is_copy P A w q) few))
 
-kept_in : (b : Bool) (ts : List TermRow) (S : List Station) (s : State) → Kept b ts S s → StateIn s
+kept_in : (b : Bool) (ts : List TermRow) (S : List Station) (s : State) → Carried b ts S s → StateIn s
 kept_in true ts S s k = k.state_in
 kept_in false ts S s k = k
 
-pub kept_state : (b : Bool) (ts : List TermRow) (S : List Station) (s : State) → ∥ Kept b ts S s ∥₁ → StateIn s
+pub kept_state : (b : Bool) (ts : List TermRow) (S : List Station) (s : State) → ∥ Carried b ts S s ∥₁ → StateIn s
 kept_state b ts S s h = ∥∥₁_elim h (state_prop s) (kept_in b ts S s)
 
-pub kept_holds : (b : Bool) (ts : List TermRow) (S : List Station) (s : State) → b ≡ true → ∥ Kept b ts S s ∥₁ → Holds (of_terms ts) S s
+pub kept_holds : (b : Bool) (ts : List TermRow) (S : List Station) (s : State) → b ≡ true → ∥ Carried b ts S s ∥₁ → Holds (of_terms ts) S s
 kept_holds true ts S s e h = ∥∥₁_elim h (holds_prop (of_terms ts) S s) (λ k. k)
 kept_holds false ts S s e h = absurd (grind arith)

@@ -34,6 +34,6 @@ pub record Holds (P : Program) (S : Sheet) (s : State) : Type 0 where
   pub safe : Safe P S (state_of s)
 
 -- What a place for a machine carries: tables that can be used again, and of a machine that was started, that it is one.
-abbrev pub Kept : Bool → List TermRow → Sheet → State → Type 0
-Kept true ts S s = Holds (of_terms ts) S s
-Kept false ts S s = StateIn s
+abbrev pub Carried : Bool → List TermRow → Sheet → State → Type 0
+Carried true ts S s = Holds (of_terms ts) S s
+Carried false ts S s = StateIn s

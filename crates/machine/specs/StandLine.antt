@@ -30,8 +30,8 @@ abbrev pub stand_with : Machine.State → Marks → Stand
 stand_with M ms = let t = stand_of M [] in record { site = t.site; phase = t.phase; frames = t.frames; kept = t.kept; published = t.published; touched = marks_set ms }
 
 -- what a stand in code says
-abbrev pub counted : Counted → Stand
-counted s = record { site = s.site; phase = work_of s.work; frames = s.frames; kept = s.kept; published = s.published; touched = s.touched }
+abbrev pub stand_told : Counted → Stand
+stand_told s = record { site = s.site; phase = work_of s.work; frames = s.frames; kept = s.kept; published = s.published; touched = s.touched }
 
 -- the word for what a machine is doing
 abbrev pub phase_text : Shown → List ℕ

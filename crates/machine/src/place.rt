@@ -1,7 +1,7 @@
 // A place for a started machine.
 ghost use Rattle.std.specs.Prelude.{◌≡◌, ◌≤◌, length, vec_capacity};
 ghost use Rattle.instruments.specs.Sheets.{stations_of};
-ghost use Rattle.machine.specs.Safe.{Kept};
+ghost use Rattle.machine.specs.Safe.{Carried};
 
 pub use crate::parts::Run;
 use crate::parts::State;
@@ -23,5 +23,5 @@ pub struct Machine {
     ghost types_room: { 512 ≤ vec_capacity types },
     ghost terms_room: { 1024 ≤ vec_capacity terms },
     ghost whole: { length marks ≡ 128 },
-    ghost ok: { ∥ Kept full terms.items (stations_of sheet) state ∥₁ },
+    ghost carried: { ∥ Carried full terms.items (stations_of sheet) state ∥₁ },
 }

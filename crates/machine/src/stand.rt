@@ -5,7 +5,7 @@ ghost use Rattle.calculus.specs.Run.{stand_of};
 ghost use Rattle.machine.specs.Meaning.{state_of};
 ghost use Rattle.machine.specs.Sound.{StateIn};
 ghost use Rattle.machine.specs.Marks.{bits_of};
-ghost use Rattle.machine.specs.StandLine.{kept_places, published_places, work_of, stand_with, counted, phase_text, stand_line};
+ghost use Rattle.machine.specs.StandLine.{kept_places, published_places, work_of, stand_with, stand_told, phase_text, stand_line};
 
 use crate::marks::ones;
 use crate::parts::*;
@@ -61,7 +61,7 @@ impl Work {
 
 impl Stand {
     fn put(self, pen: &mut Pen, out: &mut [u8]) -> Result<(), Short>
-        ensures { Writes pen.old out.old (stand_line (counted self)) result pen.new out.new }
+        ensures { Writes pen.old out.old (stand_line (stand_told self)) result pen.new out.new }
     {
         pen.numbered(out, b"(stand ", self.site as usize)?;
         pen.word(out, b" ")?;
@@ -95,7 +95,7 @@ impl State {
     fn stand(&self, marks: &[u8]) -> Stand
         requires state { StateIn self.now }
         requires marks { length marks.now ≡ 128 }
-        ensures { counted result ≡ stand_with (state_of self.now) (bits_of marks.now) }
+        ensures { stand_told result ≡ stand_with (state_of self.now) (bits_of marks.now) }
     {
         let rows = &self.store.rows[..];
         let (kept, published) = places_in(&rows[0..self.stations as usize]);

@@ -9,7 +9,7 @@ use Rattle.machine.specs.Answers.{of_terms, shown}
 use Rattle.machine.specs.Meaning.{state_of}
 use Rattle.machine.specs.Marks.{bits_of}
 use Rattle.machine.specs.MarkedRuns.{marked_ran_by}
-use Rattle.machine.specs.Safe.{Holds, Kept}
+use Rattle.machine.specs.Safe.{Holds, Carried}
 use Rattle.machine.specs.Calls.{program_of, place, run_answered}
 use Rattle.machine.specs.declared.place.Machine.{Machine}
 use Rattle.machine.proofs.Copies.{kept_holds}
@@ -29,7 +29,7 @@ run_marked-requires g c =
     let m = c.args.self.now in
     let v = shown (g.W.Gauges.readings c.args.works.now) (g.W.Works.settings c.args.works.now) in
     let S = stations_of m.sheet in
-    let h = kept_holds m.full (vec_items m.terms) S m.state c.if-not-self.false m.ok in
+    let h = kept_holds m.full (vec_items m.terms) S m.state c.if-not-self.false m.carried in
     record { holds = (S, subst (λ ts. Holds (of_terms ts) S m.state) (sym c.as_slice.ensures.value) h, same_agrees S v (sym c.in_default.ensures)); whole = m.whole }
 
 pub invariant_of-self-2 : goal.invariant_of-self-2
@@ -37,9 +37,9 @@ invariant_of-self-2 g c =
     let m = c.args.self.now in
     let v = shown (g.W.Gauges.readings c.args.works.now) (g.W.Works.settings c.args.works.now) in
     let S = stations_of m.sheet in
-    let h = subst (λ ts. Holds (of_terms ts) S m.state) (sym c.as_slice.ensures.value) (kept_holds m.full (vec_items m.terms) S m.state c.if-not-self.false m.ok) in
+    let h = subst (λ ts. Holds (of_terms ts) S m.state) (sym c.as_slice.ensures.value) (kept_holds m.full (vec_items m.terms) S m.state c.if-not-self.false m.carried) in
     let k = subst (λ ts. Holds (of_terms ts) S c.run_marked.new.self) c.as_slice.ensures.value (c.run_marked.ensures.holds S h (same_agrees S v (sym c.in_default.ensures))).0 in
-    record { types_room = m.types_room; terms_room = m.terms_room; whole = omega (arith, m.whole, c.run_marked.auto.marks); ok = ∣ subst (λ b. Kept b (vec_items m.terms) S c.run_marked.new.self) (sym c.if-not-self.false) k ∣₁ }
+    record { types_room = m.types_room; terms_room = m.terms_room; whole = omega (arith, m.whole, c.run_marked.auto.marks); carried = ∣ subst (λ b. Carried b (vec_items m.terms) S c.run_marked.new.self) (sym c.if-not-self.false) k ∣₁ }
 
 pub returns-then-not-self : goal.returns-then-not-self
 returns-then-not-self g c =

@@ -15,7 +15,7 @@ restart-requires c =
     let t = c.in-Some.tables in
     let S = stations_of c.in_ok-sheet.sheet in
     let w = start_within t.types.now t.terms.now S t.start (program_place c.args.program.now) c.in-Some.ensures.is c.in-Some.ensures.carries c.in_ok-sheet.ensures in
-    record { state = kept_state m.full (vec_items m.terms) (stations_of m.sheet) m.state m.ok; few = c.len.ensures.bound; within = subst (λ n. t.start < n) (sym c.len.ensures.value) w }
+    record { state = kept_state m.full (vec_items m.terms) (stations_of m.sheet) m.state m.carried; few = c.len.ensures.bound; within = subst (λ n. t.start < n) (sym c.len.ensures.value) w }
 
 pub invariant_of-self : goal.invariant_of-self
 invariant_of-self c =
@@ -24,7 +24,7 @@ invariant_of-self c =
     let S = stations_of c.in_ok-sheet.sheet in
     let P = copied t.types.now t.terms.now S t.start in
     let h = started_copy t.types.now t.terms.now S t.start (program_place c.args.program.now) c.restart.new.self c.in-Some.ensures.is c.in-Some.ensures.carries c.in_ok-sheet.ensures c.restart.ensures.state (c.restart.ensures.stations ∙ c.len.ensures.value) (c.restart.ensures.means P (sym c.len.ensures.value) refl) in
-    record { types_room = search rules; terms_room = search rules; whole = refl; ok = ∣ subst (λ ts. Holds (of_terms ts) S c.restart.new.self) (sym c.copy_rows-2.ensures.items) h ∣₁ }
+    record { types_room = search rules; terms_room = search rules; whole = refl; carried = ∣ subst (λ ts. Holds (of_terms ts) S c.restart.new.self) (sym c.copy_rows-2.ensures.items) h ∣₁ }
 
 pub returns : goal.returns
 returns c =

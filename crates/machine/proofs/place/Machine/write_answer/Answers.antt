@@ -8,12 +8,12 @@ use Rattle.machine.proofs.place.Machine.write_answer.Goals as goal
 pub is_done-requires : goal.is_done-requires
 is_done-requires c =
     let m = c.args.self.now in
-    kept_state m.full (vec_items m.terms) (stations_of m.sheet) m.state m.ok
+    kept_state m.full (vec_items m.terms) (stations_of m.sheet) m.state m.carried
 
 pub write_answer-requires : goal.write_answer-requires
 write_answer-requires c =
     let m = c.args.self.now in
-    let h = kept_state m.full (vec_items m.terms) (stations_of m.sheet) m.state m.ok in
+    let h = kept_state m.full (vec_items m.terms) (stations_of m.sheet) m.state m.carried in
     let cs = vec_items m.state.store.cells in
     let e = sym c.as_slice.ensures.value in
     record {

@@ -6,4 +6,4 @@ use Rattle.machine.proofs.place.Machine.write_stand.Goals as goal
 pub write_stand-requires : goal.write_stand-requires
 write_stand-requires c =
     let m = c.args.self.now in
-    record { state = kept_state m.full (vec_items m.terms) (stations_of m.sheet) m.state m.ok; marks = m.whole }
+    record { state = kept_state m.full (vec_items m.terms) (stations_of m.sheet) m.state m.carried; marks = m.whole }
