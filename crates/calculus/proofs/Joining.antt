@@ -8,47 +8,20 @@ use Rattle.calculus.specs.Limits.{lacks}
 use Rattle.calculus.specs.Run.{Ending, done, spent, at_silent, at_full, broken, Result, stop, one_more, execute, touched_by, joined, then_if, then_run, RunsJoin}
 use Rattle.calculus.specs.Calls.{Started, sheet_of, differing, answer_of, ran_to, run_unless, run_call, more_steps, run_after, then_call}
 use Rattle.calculus.specs.Law.{CallsJoin}
+use Rattle.calculus.proofs.Turns.{step_by, ends_done, ends_spent, goes_by}
 use Rattle.calculus.proofs.Touched.{touched_in_a_row}
 use Rattle.calculus.proofs.Sheets.{sheet_stays}
 
 -- runs
 module _ (P : Program) (v : Works) (M : Machine.State) where
-  ends_done : (b : ℕ) → Machine.is_finished M ≡ true → execute P b v M ≡ stop done v M
-  ends_done zero e = ap (λ d. elim d as (λ _. Result) [ true ↦ stop done v M | false ↦ stop spent v M ]) e
-  ends_done (suc b) e =
-      ap
-      (λ d. elim d as (λ _. Result) [
-        | true ↦ stop done v M
-        | false ↦
-            elim (Machine.step P v M) as (λ _. Result) [
-              | Machine.stepped L u e ↦ elim (lacks P M) as (λ _. Result) [ nothing ↦ one_more e (execute P b u L) | some κ ↦ stop (at_full κ (Machine.stands_at M)) v M ]
-              | Machine.silent κ s n ↦ stop (at_silent κ s n) v M
-              | Machine.stuck ↦ stop broken v M
-            ]
-      ])
-      e
-
-  ends_spent : Machine.is_finished M ≡ false → execute P 0 v M ≡ stop spent v M
-  ends_spent e = ap (λ d. elim d as (λ _. Result) [ true ↦ stop done v M | false ↦ stop spent v M ]) e
-
-  abbrev by : ℕ → Machine.Outcome → Option ℕ → Result
-  by b o l = elim o as (λ _. Result) [
-    | Machine.stepped L u e ↦ elim l as (λ _. Result) [ nothing ↦ one_more e (execute P b u L) | some κ ↦ stop (at_full κ (Machine.stands_at M)) v M ]
-    | Machine.silent κ s n ↦ stop (at_silent κ s n) v M
-    | Machine.stuck ↦ stop broken v M
-  ]
-
-  steps_by : (b : ℕ) → Machine.is_finished M ≡ false → execute P (suc b) v M ≡ by b (Machine.step P v M) (lacks P M)
-  steps_by b on = ap (λ d. elim d as (λ _. Result) [ true ↦ stop done v M | false ↦ by b (Machine.step P v M) (lacks P M) ]) on
-
   module _ (m : ℕ) where
     none_first : (d : Bool) → Machine.is_finished M ≡ d → execute P m v M ≡ then_run P m (execute P 0 v M)
-    none_first true e = ends_done m e ∙ ap (then_run P m) (sym (ends_done 0 e))
+    none_first true e = ends_done P v M m e ∙ ap (then_run P m) (sym (ends_done P v M 0 e))
     none_first false e =
         let r = execute P m v M in
         let z : r.steps ≡ 0 + r.steps = omega arith in
         let j : r ≡ joined (stop spent v M) r = λ i. record { ending = r.ending; steps = z i; events = r.events; works = r.works; end = r.end } in
-        j ∙ ap (then_run P m) (sym (ends_spent e))
+        j ∙ ap (then_run P m) (sym (ends_spent P v M e))
 
     more_then : (e : Event) (r : Result) (x : Ending) → one_more e (then_if x P m r) ≡ then_if x P m (one_more e r)
     more_then e r done = refl
@@ -61,15 +34,15 @@ module _ (P : Program) (v : Works) (M : Machine.State) where
     more_then e r broken = refl
 
     module _ (n : ℕ) (ih : (u : Works) (L : Machine.State) → execute P (n + m) u L ≡ then_run P m (execute P n u L)) where
-      one_step : (o : Machine.Outcome) (l : Option ℕ) → by (n + m) o l ≡ then_run P m (by n o l)
+      one_step : (o : Machine.Outcome) (l : Option ℕ) → step_by v M (execute P (n + m)) o l ≡ then_run P m (step_by v M (execute P n) o l)
       one_step (Machine.stepped L u e) nothing = ap (one_more e) (ih u L) ∙ more_then e (execute P n u L) (execute P n u L).ending
       one_step (Machine.stepped L u e) (some κ) = refl
       one_step (Machine.silent κ s k) l = refl
       one_step Machine.stuck l = refl
 
       some_first : (d : Bool) → Machine.is_finished M ≡ d → execute P (suc (n + m)) v M ≡ then_run P m (execute P (suc n) v M)
-      some_first true e = ends_done (suc (n + m)) e ∙ ap (then_run P m) (sym (ends_done (suc n) e))
-      some_first false e = steps_by (n + m) e ∙ one_step (Machine.step P v M) (lacks P M) ∙ ap (then_run P m) (sym (steps_by n e))
+      some_first true e = ends_done P v M (suc (n + m)) e ∙ ap (then_run P m) (sym (ends_done P v M (suc n) e))
+      some_first false e = goes_by P v M (n + m) e _ _ refl refl ∙ one_step (Machine.step P v M) (lacks P M) ∙ ap (then_run P m) (sym (goes_by P v M n e _ _ refl refl))
 
 pub runs_join : RunsJoin
 runs_join P zero m v M =

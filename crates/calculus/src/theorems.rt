@@ -7,62 +7,50 @@ ghost use Rattle.calculus.specs.Marked.{MarksLaw, LineAlike, MarkedJoin};
 ghost use Rattle.calculus.specs.Law.{LogLaw, LineStands, RunSettled, CallsJoin};
 
 // A typed binding put in keeps types.
-pub fn substitution_stands() -> u8
+pub fn substitution_stands()
     ensures { Substitution }
-{
-    0
-}
+{}
 
 // A typed network is done, or exactly one rule fits, and then there is a step, unless a silent register is met.
-pub fn progress_stands() -> u8
+pub fn progress_stands()
     ensures one { Progress }
     ensures stepping { Stepping }
-{
-    0
-}
+{}
 
 // Steps keep the network's type and the types of all entries, and look up and touch only where work stands.
-pub fn preservation_stands() -> u8
+pub fn preservation_stands()
     ensures step { Preservation }
     ensures silent { SilentHere }
     ensures sheet { SheetStays }
     ensures run { RunKeeps }
-{
-    0
-}
+{}
 
 // A started, typed program never gets stuck, and what it answers has its type.
-pub fn safety_stands() -> u8
+pub fn safety_stands()
     ensures start { StartTyped }
     ensures safe { Safety }
     ensures answer { AnswerTyped }
-{
-    0
-}
+{}
 
 // The machine's steps and runs are those of the calculus.
-pub fn simulation_stands() -> u8
+pub fn simulation_stands()
     ensures step { Simulation }
     ensures run { RunSimulation }
     ensures start { StartMeans }
     ensures states { StatesStand }
     ensures safe { MachineSafety }
-{
-    0
-}
+{}
 
 // The checker decides typing, and goes from a row to its parts.
-pub fn checking_decides() -> u8
+pub fn checking_decides()
     ensures decides { CheckDecides }
     ensures terms { JudgeRecurs }
     ensures types { TypeRecurs }
-{
-    0
-}
+{}
 
 // Runs count their steps, stop for the reason that they give, stay within the limits, and mark each register touched once; their
 // budgets add up, and marks tell what they touched.
-pub fn runs_stand() -> u8
+pub fn runs_stand()
     ensures counts { ExecuteCounts }
     ensures whole { NeverBroken }
     ensures within { StaysWithin }
@@ -70,26 +58,20 @@ pub fn runs_stand() -> u8
     ensures touched { TouchedOnce }
     ensures joins { RunsJoin }
     ensures marks { MarksStand }
-{
-    0
-}
+{}
 
 // The law of logs, and that the budgets of calls add up.
-pub fn law_stands() -> u8
+pub fn law_stands()
     ensures log { LogLaw }
     ensures line { LineStands }
     ensures settled { RunSettled }
     ensures joins { CallsJoin }
-{
-    0
-}
+{}
 
 // A machine that holds marks says and does, line by line, what the one that holds the list of registers touched says and does; and its
 // budgets add up.
-pub fn marks_stand() -> u8
+pub fn marks_stand()
     ensures law { MarksLaw }
     ensures line { LineAlike }
     ensures joins { MarkedJoin }
-{
-    0
-}
+{}

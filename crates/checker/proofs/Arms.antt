@@ -1,16 +1,17 @@
 -- Judging a term part by part.
-use Rattle.std.proofs.Common.{◌≡◌, ℕ, zero, suc, ◌+◌, ◌-◌, ◌<◌, ◌≤◌, Bool, true, false, cond, ltb, List, [], ◌∷◌, ◌++◌, map, length, get_or, take, IsErrAnd, Some, None, Ok, Err, vec_items, Result, sym, refl, ap, ◌∙◌, subst, ⊎_elim, arith, length-append, ltb-false, ltb-true, eqb-true}
+use Rattle.std.proofs.Common.{◌≡◌, ℕ, zero, suc, ◌+◌, ◌-◌, ◌<◌, ◌≤◌, Bool, true, false, cond, ltb, List, [], ◌∷◌, ◌++◌, map, length, get_or, take, IsErrAnd, Option, Some, None, Ok, Err, vec_items, Result, sym, refl, ap, ◌∙◌, subst, ⊎_elim, arith, ltb-false, ltb-true}
 use mathlib.Core.Option.{some, none as nothing}
 use lib.ListN.{get_elem?}
-use borrow.Author.Tests.{eqb-false}
 use native.Mathlib.Decide.{dec_lt}
 use Rattle.std.specs.List.{slice_get}
 use Rattle.std.proofs.lemmas.Option.{slice_get-get_or}
 use Rattle.std.proofs.lemmas.Result.{err_from_is_err_and}
 use Rattle.std.proofs.lemmas.Bool.{cases_lt}
-use Rattle.std.proofs.lemmas.List.{take-take, take_all, take-append-le}
+use Rattle.std.proofs.Math.ListN.{get_or-append}
+use Rattle.std.proofs.lemmas.List.{get_or_push, length_push, length-map, take-take, take_all, take-append-le}
 use Rattle.lines.specs.declared.refusal.CheckFault.{CheckFault}
 use Rattle.instruments.specs.declared.sheet.Station.{Station}
+use Rattle.instruments.specs.Sheets.{stations_of}
 use Rattle.syntax.specs.declared.program.Ty.{Ty as TypeRow}
 use Rattle.syntax.specs.declared.program.Ty.TheVariants as Row
 use Rattle.syntax.specs.declared.program.Term.{Term as TermRow}
@@ -20,22 +21,23 @@ use Rattle.calculus.specs.Types.{Ty, World, site, bound}
 use Rattle.calculus.specs.Typing.{Known}
 use Rattle.calculus.specs.Program.{Program, grow_type, AboveType, Sorted, type_of, level}
 use Rattle.lines.specs.declared.refusal.CheckFault.TheVariants.{Mismatch, BoundWorld, NotOnSheet}
-use Rattle.calculus.specs.Checker.{Checked, typed, refused, then_type, need, when_site, expecting, Judge, judge}
+use Rattle.calculus.specs.Checker.{Checked, refused, need, when_site, expecting, Judge, judge}
 use Rattle.checker.specs.Comparing.{alike}
 use Rattle.calculus.proofs.Decoding.{judge_recurs}
 use Rattle.checker.specs.declared.context.At.{At}
 use Rattle.checker.specs.declared.context.At.TheVariants.{Site, Level}
 use Rattle.checker.specs.declared.context.Bound.{Bound}
-use Rattle.checker.specs.Lookups.{innermost, same_place, Stands, registered}
+use Rattle.checker.specs.Lookups.{innermost, Stands, registered}
 use Rattle.checker.proofs.Counts.{level_in, level_out}
 use Rattle.checker.specs.declared.context.Height.{Height}
+use Rattle.checker.specs.declared.spot.Spot.{Spot}
 use Rattle.checker.specs.declared.context.Context.{Context}
 use Rattle.checker.specs.TypeTable.{Below, Given, Laid}
 use Rattle.checker.specs.Scopes.{rows_of, meaning_of, context_of, world_of}
-use Rattle.checker.specs.Judging.{checked_program, with_parts, size, SoundTerms, EachBelow, Ready, Asks, verdict, row_verdict, Grown, Typed, Answers, Judged, Fits, Held, Same, Built, held}
+use Rattle.checker.specs.Judging.{checked_program, with_parts, size, SoundTerms, EachBelow, Ready, Asks, AsksRow, verdict, row_verdict, Grown, Typed, Answers, Judged, Judges, JudgesRow, Fits, Held, Same, Built, held}
 use Rattle.checker.proofs.Table.{getElem_getD, grow_below, meaning_at, meaning_written}
 use Rattle.checker.proofs.Rows.{sound_sorted, size_at}
-use Rattle.checker.proofs.Verdicts.{program_kept, context_kept, ready_kept, keeps, more_rows, alike_same, alike_goes, unlike_stops, needs_met, needs_unmet}
+use Rattle.checker.proofs.Verdicts.{program_kept, context_kept, ready_kept, keeps, more_rows, alike_same, alike_goes, unlike_stops, needs_met}
 
 -- nothing happened yet
 pub same_self : (c : Context) → Same c c
@@ -58,7 +60,7 @@ same_then {c} {d} {e} p q =
 
 pub grown_then : {c d e : Context} {m n : ℕ} → Ready c → Grown c m d → Same c d → Grown d n e → Grown c (m + n) e
 grown_then {c} {d} {e} {m} {n} r g s h =
-    let l : length (rows_of c) ≤ length (rows_of d) = more_rows c d m r g s in
+    let l : length (rows_of c) ≤ length (rows_of d) = more_rows r g s in
     record {
       laid = h.laid;
       front = sym (take-take (length (rows_of c)) (length (rows_of d)) (rows_of e) l) ∙ ap (take (length (rows_of c))) h.front ∙ g.front;
@@ -73,7 +75,7 @@ pub next_part : {c d : Context} {terms : List TermRow} {term more : ℕ} → Ask
 next_part {c} {d} {terms} {term} {more} a g s part i z =
     let w : d.written ≡ c.written = s.kept.written in
     record {
-      ready = ready_kept c d more a.ready g s;
+      ready = ready_kept a.ready g s;
       sound = subst (λ n. SoundTerms n terms) (sym w) a.sound;
       within = i.1;
       short = a.short;
@@ -88,10 +90,13 @@ next_part {c} {d} {terms} {term} {more} a g s part i z =
 pub row_sound : {c : Context} {terms : List TermRow} {term : ℕ} → Asks c terms term → (row : TermRow) → get_or terms term (Term.Num 0) ≡ row → TermSound c.written (term + 1) (length terms) row
 row_sound {c} {terms} {term} a row e = subst (TermSound c.written (term + 1) (length terms)) e (a.sound term a.within)
 
+pub row_parts : {c : Context} {s : Spot} {row : TermRow} → AsksRow c s row → TermSound c.written (s.term + 1) (length s.terms.now) row
+row_parts {c} {s} {row} q = row_sound q.asks row q.row
+
 pub verdict_kept : {c d : Context} {more : ℕ} → Ready c → Grown c more d → Same c d → (stations : List Station) (terms : List TermRow) (part : ℕ) (w : At) → verdict d stations terms part w ≡ verdict c stations terms part w
 verdict_kept {c} {d} {more} r g s stations terms part w =
-    ap (λ (P : Program). judge P part (context_of d) (world_of w)) (program_kept c d more r g s stations terms)
-    ∙ ap (λ x. judge (checked_program c stations terms) part x (world_of w)) (context_kept c d more r g s)
+    ap (λ (P : Program). judge P part (context_of d) (world_of w)) (program_kept r g s stations terms)
+    ∙ ap (λ x. judge (checked_program c stations terms) part x (world_of w)) (context_kept r g s)
 
 -- the row of a term gives its verdict
 pub row_judged : {c : Context} {terms : List TermRow} {term : ℕ} → Asks c terms term → (stations : List Station) (row : TermRow) (w : At) → get_or terms term (Term.Num 0) ≡ row → verdict c stations terms term w ≡ row_verdict c stations terms term row w
@@ -103,51 +108,37 @@ row_judged {c} {terms} {term} a stations row w e =
 pub row_size : {c : Context} {terms : List TermRow} {term : ℕ} → Asks c terms term → (row : TermRow) → get_or terms term (Term.Num 0) ≡ row → size terms term ≡ with_parts (size terms) row
 row_size {c} {terms} {term} a row e = size_at c.written terms a.sound term row a.within e
 
+pub row_sizes : {c : Context} {s : Spot} {row : TermRow} → AsksRow c s row → size s.terms.now s.term ≡ with_parts (size s.terms.now) row
+row_sizes {c} {s} {row} q = row_size q.asks row q.row
+
+-- what is asked of the first part of a term
+pub first_part : {c : Context} {s : Spot} {row : TermRow} → AsksRow c s row → (part : ℕ) → Inside (s.term + 1) (length s.terms.now) part → size s.terms.now part ≤ size s.terms.now s.term → Asks c s.terms.now part
+first_part {c} {s} {row} q part i z = next_part q.asks (grown_none c q.asks.ready) (same_self c) part i (omega arith)
+
 -- a refusal ends it
 pub stops : {c d : Context} {v : Checked} {r : Result ℕ CheckFault} {more : ℕ} (e : CheckFault) → IsErrAnd r (λ y. y ≡ e) → v ≡ refused e → Judged c v r more d
 stops {c} {d} {v} {r} {more} e by q =
     let p = err_from_is_err_and r by in
     subst (λ (x : Result ℕ CheckFault). Judged c v x more d) (sym (p.1 ∙ ap (λ (y : CheckFault). Err y) p.2)) (record { answer = q })
 
--- a part's verdict goes into the whole's
-pub then_refused : (v : Checked) (e : CheckFault) (k : Ty → Checked) → v ≡ refused e → then_type v k ≡ refused e
-then_refused v e k q = ap (λ x. then_type x k) q
-
-pub then_typed : (v : Checked) (A : Ty) (k : Ty → Checked) → v ≡ typed A → then_type v k ≡ k A
-then_typed v A k q = ap (λ x. then_type x k) q
-
 -- a built type
-get_d_front : (rows : List TypeRow) (row d : TypeRow) (n : ℕ) → n < length rows → get_or (rows ++ row ∷ []) n d ≡ get_or rows n d
-get_d_front [] row d n h = absurd (omega arith)
-get_d_front (x ∷ rows) row d zero h = refl
-get_d_front (x ∷ rows) row d (suc n) h = get_d_front rows row d n (omega arith)
-
-getD_last : (rows : List TypeRow) (row d : TypeRow) (n : ℕ) → n ≡ length rows → get_or (rows ++ row ∷ []) n d ≡ row
-getD_last [] row d zero e = refl
-getD_last [] row d (suc n) e = absurd (omega arith)
-getD_last (x ∷ rows) row d zero e = absurd (omega arith)
-getD_last (x ∷ rows) row d (suc n) e = getD_last rows row d n (omega arith)
-
-length_pushed : (rows : List TypeRow) (row : TypeRow) → length (rows ++ row ∷ []) ≡ length rows + 1
-length_pushed rows row = length-append rows (row ∷ [])
-
 laid_pushed : (w : ℕ) (rows : List TypeRow) (row : TypeRow) → Laid w rows → Below (length rows) row → Given w row → Laid w (rows ++ row ∷ [])
 laid_pushed w rows row l b g =
     record {
-      some = omega (arith, l.some, length_pushed rows row);
+      some = omega (arith, l.some, length_push rows row);
       ordered = subst (Sorted AboveType 0) (sym (take-append-le w rows (row ∷ []) l.some)) l.ordered;
-      written = λ n r h e. l.written n r h (sym (get_d_front rows row Row.Num n (omega (arith, l.some))) ∙ e);
+      written = λ n r h e. l.written n r h (sym (get_or-append rows (row ∷ []) Row.Num n (omega (arith, l.some))) ∙ e);
       built = λ n r k h e. ⊎_elim
-          (λ (q : n < length rows). l.built n r k q (sym (get_d_front rows row Row.Num n q) ∙ e))
+          (λ (q : n < length rows). l.built n r k q (sym (get_or-append rows (row ∷ []) Row.Num n q) ∙ e))
           (λ (q : length rows ≤ n).
-          let z : n ≡ length rows = omega (arith, length_pushed rows row) in
-          subst (Below n) (sym (getD_last rows row Row.Num n z) ∙ e) (subst (λ m. Below m row) (sym z) b))
+          let z : n ≡ length rows = omega (arith, length_push rows row) in
+          subst (Below n) (sym (get_or_push rows row Row.Num n (sym z)) ∙ e) (subst (λ m. Below m row) (sym z) b))
           (cases_lt n (length rows));
       given = λ n r h e. ⊎_elim
-          (λ (q : n < length rows). l.given n r q (sym (get_d_front rows row Row.Num n q) ∙ e))
+          (λ (q : n < length rows). l.given n r q (sym (get_or-append rows (row ∷ []) Row.Num n q) ∙ e))
           (λ (q : length rows ≤ n).
-          let z : n ≡ length rows = omega (arith, length_pushed rows row) in
-          subst (Given w) (sym (getD_last rows row Row.Num n z) ∙ e) g)
+          let z : n ≡ length rows = omega (arith, length_push rows row) in
+          subst (Given w) (sym (get_or_push rows row Row.Num n (sym z)) ∙ e) g)
           (cases_lt n (length rows));
     }
 
@@ -157,16 +148,16 @@ module _ {c d : Context} {row : TypeRow} {n : ℕ} (r : Ready c) (b : Below (len
       record {
         laid = subst (λ w. Laid w (rows_of d)) (sym h.same.kept.written) (subst (Laid c.written) (sym h.rows) (laid_pushed c.written (rows_of c) row r.laid b g));
         front = ap (take (length (rows_of c))) h.rows ∙ take-append-le (length (rows_of c)) (rows_of c) (row ∷ []) (omega arith) ∙ take_all (length (rows_of c)) (rows_of c) (omega arith);
-        few = omega (arith, ap length h.rows, length_pushed (rows_of c) row);
+        few = omega (arith, ap length h.rows, length_push (rows_of c) row);
       }
 
   pub built_number : n < length (rows_of d)
-  built_number = omega (arith, h.number, ap length h.rows, length_pushed (rows_of c) row)
+  built_number = omega (arith, h.number, ap length h.rows, length_push (rows_of c) row)
 
   pub built_is : meaning_of d n ≡ grow_type (meaning_of c) row
   built_is =
-      meaning_at d.written (rows_of d) built_grown.laid n row built_number (ap (λ (x : List TypeRow). get_or x n Row.Num) h.rows ∙ getD_last (rows_of c) row Row.Num n h.number)
-      ∙ grow_below (meaning_of d) (meaning_of c) (length (rows_of c)) row b (keeps c d 1 r built_grown h.same)
+      meaning_at d.written (rows_of d) built_grown.laid n row built_number (ap (λ (x : List TypeRow). get_or x n Row.Num) h.rows ∙ get_or_push (rows_of c) row Row.Num n (sym h.number))
+      ∙ grow_below (meaning_of d) (meaning_of c) (length (rows_of c)) row b (keeps r built_grown h.same)
 
 -- holding a part to a type
 held_yes : (b : Bool) (p : ℕ) (u : Unit {0}) → ◌≡◌ {A = Result (Unit {0}) CheckFault} (cond b (Ok tt) (Err (Mismatch p))) (Ok u) → b ≡ true
@@ -206,9 +197,12 @@ stops_held {c} {d} {v} {A} {part} {r} {more} e by q =
     subst (λ (x : Result ℕ CheckFault). Held c v A part x more d) (sym (p.1 ∙ ap (λ (y : CheckFault). Err y) p.2)) (record { answer = q })
 
 -- the verdict on a term by its row
-pub by_row : {c d : Context} {terms : List TermRow} {term more : ℕ} {r : Result ℕ CheckFault} → Asks c terms term → (stations : List Station) (row : TermRow) (w : At) → get_or terms term (Term.Num 0) ≡ row
-    → Judged c (row_verdict c stations terms term row w) r more d → Judged c (verdict c stations terms term w) r more d
-by_row {c} {d} {terms} {term} {more} {r} a stations row w e j = subst (λ (x : Checked). Judged c x r more d) (sym (row_judged a stations row w e)) j
+pub by_row : {c d : Context} {s : Spot} {row : TermRow} {r : Result ℕ CheckFault} → Asks c s.terms.now s.term → get_or s.terms.now s.term (Term.Num 0) ≡ row → JudgesRow c s row r d → Judges c s r d
+by_row {c} {d} {s} {row} {r} a e j =
+    record {
+      judged = subst (λ (x : Checked). Judged c x r (size s.terms.now s.term) d) (sym (row_judged a (stations_of s.sheet.now) row s.world e)) j.judged;
+      same = j.same;
+    }
 
 -- a written type stands for what it stands for in the text
 pub written_is : (c : Context) → Ready c → (stations : List Station) (terms : List TermRow) (t : ℕ) → t < c.written → type_of (checked_program c stations terms) t ≡ meaning_of c t
@@ -228,14 +222,6 @@ pub registered_goes : (f : ℕ → ℕ) (w : World) (n p : ℕ) (u : Unit {0}) (
 registered_goes f (site s) n p u k e = fitted_goes (ltb n (f s)) (f s) n p u k refl e
 registered_goes f (bound j) n p u k e = let z : ◌≡◌ {A = ℕ} 0 1 = cc in absurd (omega arith)
 
-fitted_stops : (b : Bool) (m n p : ℕ) (r : CheckFault) (k : Checked) → b ≡ ltb n m → ◌≡◌ {A = Result (Unit {0}) CheckFault} (cond b (Ok tt) (Err (NotOnSheet p))) (Err r) → need (dec_lt n m) (NotOnSheet p) k ≡ refused r
-fitted_stops true m n p r k q e = let z : ◌≡◌ {A = ℕ} 0 1 = cc in absurd (omega arith)
-fitted_stops false m n p r k q e = let l = ltb-false n m (sym q) in needs_unmet (dec_lt n m) (NotOnSheet p) k (λ h. omega arith) ∙ ap refused (cc)
-
-pub registered_stops : (f : ℕ → ℕ) (w : World) (n p : ℕ) (r : CheckFault) (k : Checked) → registered f w n p ≡ Err r → when_site w (BoundWorld p) (λ s. need (dec_lt n (f s)) (NotOnSheet p) k) ≡ refused r
-registered_stops f (site s) n p r k e = fitted_stops (ltb n (f s)) (f s) n p r k refl e
-registered_stops f (bound j) n p r k e = ap refused (cc)
-
 -- what is bound, by counts
 get_elem_map : (f : Bound → Ty × World) (bs : List Bound) (n : ℕ) (b : Bound) → slice_get bs n ≡ Some b → get_elem? (map f bs) n ≡ some (f b)
 get_elem_map f [] n b e = let z : ◌≡◌ {A = ℕ} 0 1 = cc in absurd (omega arith)
@@ -246,10 +232,6 @@ getElem_past : {X : Type 0} (xs : List X) (n : ℕ) → length xs ≤ n → get_
 getElem_past [] n h = refl
 getElem_past (x ∷ xs) zero h = absurd (omega arith)
 getElem_past (x ∷ xs) (suc n) h = getElem_past xs n (omega arith)
-
-length_mapped : (f : Bound → Ty × World) (bs : List Bound) → length (map f bs) ≡ length bs
-length_mapped f [] = refl
-length_mapped f (b ∷ bs) = ap suc (length_mapped f bs)
 
 innermost_in : (b : Bool) (bs : List Bound) (i : ℕ) (x : Bound) → b ≡ ltb i (length bs) → cond b (slice_get bs (length bs - 1 - i)) None ≡ Some x → (i < length bs) × (slice_get bs (length bs - 1 - i) ≡ Some x)
 innermost_in true bs i x q e = (ltb-true i (length bs) (sym q), e)
@@ -263,15 +245,18 @@ innermost_out true bs i q e =
     let z : ◌≡◌ {A = ℕ} 0 1 = cc in absurd (omega arith)
 innermost_out false bs i q e = ltb-false i (length bs) (sym q)
 
+pub found : {us bs : List Bound} (i : ℕ) {r x : Option Bound} → us ≡ bs → r ≡ innermost us i → r ≡ x → innermost bs i ≡ x
+found {us} {bs} i q e f = ap (λ (l : List Bound). innermost l i) (sym q) ∙ sym e ∙ f
+
 pub looked : (f : Bound → Ty × World) (bs : List Bound) (i : ℕ) (x : Bound) → innermost bs i ≡ Some x → get_elem? (map f bs) (level (length (map f bs)) i) ≡ some (f x)
 looked f bs i x e =
     let p = innermost_in (ltb i (length bs)) bs i x refl e in
-    ap (λ n. get_elem? (map f bs) (level n i)) (length_mapped f bs) ∙ ap (get_elem? (map f bs)) (level_in (length bs) i p.0) ∙ get_elem_map f bs (length bs - 1 - i) x p.1
+    ap (λ n. get_elem? (map f bs) (level n i)) (length-map bs f) ∙ ap (get_elem? (map f bs)) (level_in (length bs) i p.0) ∙ get_elem_map f bs (length bs - 1 - i) x p.1
 
 pub not_looked : (f : Bound → Ty × World) (bs : List Bound) (i : ℕ) → innermost bs i ≡ None → get_elem? (map f bs) (level (length (map f bs)) i) ≡ nothing
 not_looked f bs i e =
     let l = innermost_out (ltb i (length bs)) bs i refl e in
-    ap (get_elem? (map f bs)) (level_out (length (map f bs)) i (omega (arith, length_mapped f bs))) ∙ getElem_past (map f bs) (length (map f bs)) (omega arith)
+    ap (get_elem? (map f bs)) (level_out (length (map f bs)) i (omega (arith, length-map bs f))) ∙ getElem_past (map f bs) (length (map f bs)) (omega arith)
 
 each_nth : (n k : ℕ) (bs : List Bound) (b : Bound) → EachBelow n bs → slice_get bs k ≡ Some b → b.ty < n
 each_nth n k [] b h e = let z : ◌≡◌ {A = ℕ} 0 1 = cc in absurd (omega arith)
@@ -282,17 +267,11 @@ pub looked_below : (n : ℕ) (bs : List Bound) (i : ℕ) (x : Bound) → EachBel
 looked_below n bs i x h e = each_nth n (length bs - 1 - i) bs x h (innermost_in (ltb i (length bs)) bs i x refl e).1
 
 -- worlds by their places
-pub place_same : (a b : At) → same_place a b ≡ true → world_of a ≡ world_of b
-place_same (Site s) (Site u) e = ap site (eqb-true s u e)
-place_same (Site s) (Level k) e = let z : ◌≡◌ {A = ℕ} 0 1 = cc in absurd (omega arith)
-place_same (Level k) (Site s) e = let z : ◌≡◌ {A = ℕ} 0 1 = cc in absurd (omega arith)
-place_same (Level j) (Level k) e = ap bound (eqb-true j k e)
-
-pub place_other : (a b : At) → same_place a b ≡ false → world_of a ≡ world_of b → ⊥
-place_other (Site s) (Site u) e q = let n = eqb-false s u e in n (cc)
-place_other (Site s) (Level k) e q = let z : ◌≡◌ {A = ℕ} 0 1 = cc in omega arith
-place_other (Level k) (Site s) e q = let z : ◌≡◌ {A = ℕ} 0 1 = cc in omega arith
-place_other (Level j) (Level k) e q = let n = eqb-false j k e in n (cc)
+pub place_other : (a b : At) → (a ≡ b → ⊥) → world_of a ≡ world_of b → ⊥
+place_other (Site s) (Site u) n q = let e : s ≡ u = cc in n (ap (λ x. Site x) e)
+place_other (Site s) (Level k) n q = let z : ◌≡◌ {A = ℕ} 0 1 = cc in omega arith
+place_other (Level k) (Site s) n q = let z : ◌≡◌ {A = ℕ} 0 1 = cc in omega arith
+place_other (Level j) (Level k) n q = let e : j ≡ k = cc in n (ap (λ x. Level x) e)
 
 grown_at : {b e : Context} {n : ℕ} (d : Context) → rows_of b ≡ rows_of d → Grown b n e → Grown d n e
 grown_at {b} {e} {n} d q g =

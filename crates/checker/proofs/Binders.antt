@@ -1,16 +1,16 @@
 -- Judging inside a binder: what is bound around it, and what is left when its scope ends.
-use Rattle.std.proofs.Common.{◌≡◌, ℕ, ◌+◌, ◌<◌, ◌≤◌, List, [], ◌∷◌, ◌++◌, map, length, take, Ok, Err, vec_items, Result, sym, refl, ap, ◌∙◌, subst, add-one, arith}
+use Rattle.std.proofs.Common.{◌≡◌, ℕ, ◌+◌, ◌<◌, ◌≤◌, List, [], ◌∷◌, ◌++◌, map, length, take, Ok, Err, vec_items, Result, sym, ap, ◌∙◌, subst, add-one, arith}
 use Rattle.instruments.specs.declared.sheet.Station.{Station}
 use Rattle.syntax.specs.declared.program.Ty.{Ty as TypeRow}
 use Rattle.syntax.specs.declared.program.Term.{Term as TermRow}
-use Rattle.calculus.specs.Types.{Ty, World}
+use Rattle.calculus.specs.Types.{Ty}
 use Rattle.calculus.specs.Typing.{binding_value, binding_world, binding_continuation}
 use Rattle.checker.specs.declared.context.Bound.{Bound}
 use Rattle.checker.specs.declared.context.Height.{Height}
 use Rattle.checker.specs.declared.context.Context.{Context}
 use Rattle.checker.specs.TypeTable.{meaning, Laid}
 use Rattle.checker.specs.Scopes.{values_of, continuations_of, rows_of, meaning_of, context_of, bound_of, around, world_of, Kept, BoundValue, BoundWorld, BoundContinuation}
-use Rattle.std.proofs.lemmas.List.{take-take}
+use Rattle.std.proofs.lemmas.List.{map-append, take-take}
 use Rattle.lines.specs.declared.refusal.CheckFault.{CheckFault}
 use Rattle.calculus.specs.Checker.{Checked, typed}
 use Rattle.checker.specs.Judging.{checked_program, EachBelow, SoundTerms, Asks, Grown, Typed, Answers, Judged, Same, Under}
@@ -35,10 +35,6 @@ each_append : (n : ℕ) (bs : List Bound) (b : Bound) → EachBelow n bs → b.t
 each_append n [] b e h = (h, tt)
 each_append n (x ∷ bs) b e h = (e.0, each_append n bs b e.1 h)
 
-map_append : (f : Bound → Ty × World) (bs : List Bound) (b : Bound) → map f (bs ++ b ∷ []) ≡ map f bs ++ f b ∷ []
-map_append f [] b = refl
-map_append f (x ∷ bs) b = ap (λ l. f x ∷ l) (map_append f bs b)
-
 module _ (c d : Context) (rows : rows_of d ≡ rows_of c) (written : d.written ≡ c.written) where
   pub same_meaning : meaning_of d ≡ meaning_of c
   same_meaning = ap (λ w. meaning w (rows_of d)) written ∙ ap (λ (x : List TypeRow). meaning c.written x) rows
@@ -61,7 +57,7 @@ module _ {c d : Context} {b : Bound} (h : BoundValue c d b) where
       ∙ ap (λ (vs : List Bound). around (meaning_of c) vs d.height.worlds (continuations_of d)) h.values
       ∙ ap (λ (x : Height). around (meaning_of c) (values_of c ++ b ∷ []) x.worlds (continuations_of d)) h.height
       ∙ ap (λ (ks : List Bound). around (meaning_of c) (values_of c ++ b ∷ []) c.height.worlds ks) value_continuations
-      ∙ ap (λ vs. record { values = vs; worlds = c.height.worlds; continuations = map (bound_of (meaning_of c)) (continuations_of c) }) (map_append (bound_of (meaning_of c)) (values_of c) b)
+      ∙ ap (λ vs. record { values = vs; worlds = c.height.worlds; continuations = map (bound_of (meaning_of c)) (continuations_of c) }) (map-append (bound_of (meaning_of c)) (values_of c) (b ∷ []))
 
   pub value_asks : {terms : List TermRow} {term : ℕ} → Asks c terms term → b.ty < length (rows_of c) → c.height.values + 1 ≤ term → Asks d terms term
   value_asks {terms} {term} a t v =
@@ -130,7 +126,7 @@ module _ {c d : Context} {b : Bound} (h : BoundContinuation c d b) where
       ∙ ap (λ (ks : List Bound). around (meaning_of c) (values_of d) d.height.worlds ks) h.continuations
       ∙ ap (λ (x : Height). around (meaning_of c) (values_of d) x.worlds (continuations_of c ++ b ∷ [])) h.height
       ∙ ap (λ (vs : List Bound). around (meaning_of c) vs c.height.worlds (continuations_of c ++ b ∷ [])) continuation_values
-      ∙ ap (λ ks. record { values = map (bound_of (meaning_of c)) (values_of c); worlds = c.height.worlds; continuations = ks }) (map_append (bound_of (meaning_of c)) (continuations_of c) b)
+      ∙ ap (λ ks. record { values = map (bound_of (meaning_of c)) (values_of c); worlds = c.height.worlds; continuations = ks }) (map-append (bound_of (meaning_of c)) (continuations_of c) (b ∷ []))
 
   pub continuation_asks : {terms : List TermRow} {term : ℕ} → Asks c terms term → b.ty < c.written → c.height.continuations + 1 ≤ term → Asks d terms term
   continuation_asks {terms} {term} a t v =
@@ -152,26 +148,6 @@ module _ {c d : Context} {b : Bound} (h : BoundContinuation c d b) where
         continuations = omega (arith, v, ap (λ (x : Height). x.continuations) h.height);
       }
 
--- what is judged stays so where only the height changes
-typed_moved : {c d e : Context} {v : Checked} {n more : ℕ} → rows_of e ≡ rows_of d → e.written ≡ d.written → Typed c v n more d → Typed c v n more e
-typed_moved {c} {d} {e} {v} {n} {more} r w t =
-    record {
-      number = omega (arith, t.number, ap length r);
-      verdict = t.verdict ∙ ap (λ (M : ℕ → Ty). typed (M n)) (sym (same_meaning d e r w));
-      grown = record {
-        laid = same_laid d e r w t.grown.laid;
-        front = ap (take (length (rows_of c))) r ∙ t.grown.front;
-        few = omega (arith, t.grown.few, ap length r);
-      };
-    }
-
-answers_moved : (c d e : Context) (v : Checked) (x : Result ℕ CheckFault) (more : ℕ) → rows_of e ≡ rows_of d → e.written ≡ d.written → Answers c v x more d → Answers c v x more e
-answers_moved c d e v (Ok n) more r w a = typed_moved r w a
-answers_moved c d e v (Err f) more r w a = a
-
-pub moved : {c d e : Context} {v : Checked} {x : Result ℕ CheckFault} {more : ℕ} → rows_of e ≡ rows_of d → e.written ≡ d.written → Judged c v x more d → Judged c v x more e
-moved {c} {d} {e} {v} {x} {more} r w j = record { answer = answers_moved c d e v x more r w j.answer }
-
 pub kept_under : {h k : Height} {c d e : Context} → Kept k c d → Under h k → vec_items e.values ≡ vec_items d.values → vec_items e.continuations ≡ vec_items d.continuations → e.written ≡ d.written → Kept h c e
 kept_under {h} {k} {c} {d} {e} p u a b w =
     let x = u.values in
@@ -190,3 +166,16 @@ kept_below {d} {e} c h k =
       continuations = subst (λ (x : Height). take x.continuations (vec_items e.continuations) ≡ take x.continuations (vec_items d.continuations)) h k.continuations;
       written = k.written;
     }
+
+-- what was bound is under what is bound
+pub under_value : {c d : Context} {b : Bound} → BoundValue c d b → Under c.height d.height
+under_value h = record { values = omega (arith, ap (λ (x : Height). x.values) h.height); worlds = omega (arith, ap (λ (x : Height). x.worlds) h.height); continuations = omega (arith, ap (λ (x : Height). x.continuations) h.height) }
+
+pub under_world : {c d : Context} → BoundWorld c d → Under c.height d.height
+under_world h = record { values = omega (arith, ap (λ (x : Height). x.values) h.height); worlds = omega (arith, ap (λ (x : Height). x.worlds) h.height); continuations = omega (arith, ap (λ (x : Height). x.continuations) h.height) }
+
+pub under_continuation : {c d : Context} {b : Bound} → BoundContinuation c d b → Under c.height d.height
+under_continuation h = record { values = omega (arith, ap (λ (x : Height). x.values) h.height); worlds = omega (arith, ap (λ (x : Height). x.worlds) h.height); continuations = omega (arith, ap (λ (x : Height). x.continuations) h.height) }
+
+pub under_then : {h k l : Height} → Under h k → Under k l → Under h l
+under_then p q = record { values = omega (arith, p.values, q.values); worlds = omega (arith, p.worlds, q.worlds); continuations = omega (arith, p.continuations, q.continuations) }

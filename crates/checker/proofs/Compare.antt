@@ -39,6 +39,22 @@ module _ (w : ℕ) (rows : List TypeRow) (laid : Laid w rows) where
       → alike (meaning w rows i) (meaning w rows j) ≡ alike (grow_type (meaning w rows) r) (grow_type (meaning w rows) s)
   compare_at i j r s h k e f = ap (λ x. alike x (meaning w rows j)) (meaning_at w rows laid i r h e) ∙ ap (λ x. alike (grow_type (meaning w rows) r) x) (meaning_at w rows laid j s k f)
 
+-- type a with row r, and the written type b with row s
+pub record Side (w : ℕ) (rows : List TypeRow) (a b : ℕ) (r s : TypeRow) : Type 0 where
+  pub inside : Below (length rows) r
+  pub within : Below w s
+  pub behind : AboveType b s
+  pub is : alike (meaning w rows a) (meaning w rows b) ≡ alike (grow_type (meaning w rows) r) (grow_type (meaning w rows) s)
+
+pub side : {w : ℕ} {rows : List TypeRow} {a b : ℕ} {r s : TypeRow} → Laid w rows → a < length rows → b < w → get_or rows a Row.Num ≡ r → get_or rows b Row.Num ≡ s → Side w rows a b r s
+side {w} {rows} {a} {b} {r} {s} laid h k e f =
+    record {
+      inside = parts_in w rows laid a r h e;
+      within = laid.written b s k f;
+      behind = parts_behind w rows laid b s k f;
+      is = compare_at w rows laid a b r s h (omega (arith, laid.some)) e f;
+    }
+
 -- rows of different forms
 module _ (f : ℕ → Ty) where
   pub not_num : (r : TypeRow) → (r ≡ Row.Num → ⊥) → alike num (grow_type f r) ≡ false

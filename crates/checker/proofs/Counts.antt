@@ -1,12 +1,12 @@
 -- Counts, levels and the registers of a sheet.
-use Rattle.std.proofs.Common.{◌≡◌, ℕ, zero, suc, ◌+◌, ◌-◌, ◌<◌, ◌≤◌, true, ltb, List, [], ◌∷◌, length, get_or, take, Some, None, sym, refl, ap, ◌∙◌, arith, lt-ltb}
+use Rattle.std.proofs.Common.{◌≡◌, ℕ, zero, suc, ◌+◌, ◌-◌, ◌<◌, ◌≤◌, List, [], ◌∷◌, Some, None, sym, refl, ap, ◌∙◌, arith}
 use Rattle.std.specs.List.{slice_get}
-use Rattle.std.proofs.lemmas.Option.{slice_get-get_or}
-use Rattle.std.proofs.lemmas.List.{length-take-le, get_or-take}
+use Rattle.lines.specs.declared.refusal.Instrument.{Instrument}
+use Rattle.lines.specs.declared.refusal.Instrument.TheVariants.{Gauge, Gate}
 use Rattle.instruments.specs.declared.sheet.Station.{Station}
 use Rattle.calculus.specs.Types.{gauges_there, gates_there}
 use Rattle.calculus.specs.Program.{raise, level_or, level}
-use Rattle.checker.specs.Lookups.{innermost}
+use Rattle.checker.specs.Lookups.{registers_there}
 
 -- the registers of a site by its station
 pub gauges_some : (S : List Station) (s : ℕ) (x : Station) → slice_get S s ≡ Some x → x.gauges ≡ gauges_there S s
@@ -14,20 +14,18 @@ gauges_some [] s x e = let z : ◌≡◌ {A = ℕ} 0 1 = cc in absurd (omega ari
 gauges_some (y ∷ S) zero x e = let q : y ≡ x = cc in ap (λ (h : Station). h.gauges) (sym q)
 gauges_some (y ∷ S) (suc s) x e = gauges_some S s x e
 
-pub gauges_none : (S : List Station) (s : ℕ) → slice_get S s ≡ None → 0 ≡ gauges_there S s
-gauges_none [] s e = refl
-gauges_none (y ∷ S) zero e = let z : ◌≡◌ {A = ℕ} 0 1 = cc in absurd (omega arith)
-gauges_none (y ∷ S) (suc s) e = gauges_none S s e
-
 pub gates_some : (S : List Station) (s : ℕ) (x : Station) → slice_get S s ≡ Some x → x.gates ≡ gates_there S s
 gates_some [] s x e = let z : ◌≡◌ {A = ℕ} 0 1 = cc in absurd (omega arith)
 gates_some (y ∷ S) zero x e = let q : y ≡ x = cc in ap (λ (h : Station). h.gates) (sym q)
 gates_some (y ∷ S) (suc s) x e = gates_some S s x e
 
-pub gates_none : (S : List Station) (s : ℕ) → slice_get S s ≡ None → 0 ≡ gates_there S s
-gates_none [] s e = refl
-gates_none (y ∷ S) zero e = let z : ◌≡◌ {A = ℕ} 0 1 = cc in absurd (omega arith)
-gates_none (y ∷ S) (suc s) e = gates_none S s e
+pub none_there : (kind : Instrument) (S : List Station) (s : ℕ) → slice_get S s ≡ None → 0 ≡ registers_there kind S s
+none_there Gauge [] s e = refl
+none_there Gauge (y ∷ S) zero e = let z : ◌≡◌ {A = ℕ} 0 1 = cc in absurd (omega arith)
+none_there Gauge (y ∷ S) (suc s) e = none_there Gauge S s e
+none_there Gate [] s e = refl
+none_there Gate (y ∷ S) zero e = let z : ◌≡◌ {A = ℕ} 0 1 = cc in absurd (omega arith)
+none_there Gate (y ∷ S) (suc s) e = none_there Gate S s e
 
 raised : (n j : ℕ) → raise n j ≡ n + j
 raised zero j = omega arith
@@ -49,12 +47,3 @@ level_in n i h = level_or_in n i (raise n 0) h
 
 pub level_out : (n i : ℕ) → n ≤ i → level n i ≡ n
 level_out n i h = level_or_out n i (raise n 0) h ∙ raised n 0 ∙ omega arith
-
--- the bound thing of a count, read from the front of a list
-pub innermost_at : {X : Type 0} (xs : List X) (n i : ℕ) (d : X) → n ≤ length xs → i < n → Some (get_or xs (n - 1 - i) d) ≡ innermost (take n xs) i
-innermost_at xs n i d l h =
-    let e : length (take n xs) ≡ n = length-take-le n xs l in
-    let k : n - 1 - i < length (take n xs) = omega arith in
-    let m : length (take n xs) - 1 - i ≡ n - 1 - i = omega arith in
-    let b : ltb i (length (take n xs)) ≡ true = lt-ltb i (length (take n xs)) (omega arith) in
-    sym (rw (b, m) (slice_get-get_or (take n xs) (n - 1 - i) d k ∙ ap (λ x. Some x) (get_or-take n xs (n - 1 - i) d (omega arith))))

@@ -4,6 +4,7 @@ pub mod Counts
 pub mod Verdicts
 pub mod Arms
 pub mod Rows
+pub mod Steps
 pub mod Binders
 pub mod Opening
 pub mod Whole

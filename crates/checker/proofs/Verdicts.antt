@@ -117,7 +117,7 @@ each_wider n m [] h e = tt
 each_wider n m (b ∷ bs) h e = (omega (arith, e.0), each_wider n m bs h e.1)
 
 -- after a part was judged, the scope list stands for what it stood for
-module _ (c d : Context) (more : ℕ) (ready : Ready c) (grown : Grown c more d) (same : Same c d) where
+module _ {c d : Context} {more : ℕ} (ready : Ready c) (grown : Grown c more d) (same : Same c d) where
   same_written : d.written ≡ c.written
   same_written = same.kept.written
 

@@ -1,5 +1,5 @@
 -- A whole program: what its soundness gives the checker, and what its verdict is.
-use Rattle.std.proofs.Common.{◌≡◌, ℕ, suc, ◌+◌, ◌-◌, ◌<◌, ◌≤◌, List, [], ◌∷◌, length, get_or, take, Ok, Err, vec_items, Result, sym, refl, ap, ◌∙◌, subst, arith}
+use Rattle.std.proofs.Common.{◌≡◌, ℕ, suc, ◌+◌, ◌-◌, ◌<◌, List, [], ◌∷◌, length, get_or, take, Ok, Err, vec_items, Result, sym, refl, ap, ◌∙◌, subst, arith}
 use native.Mathlib.Decide.{dec_lt}
 use Rattle.std.proofs.lemmas.List.{take_all}
 use Rattle.lines.specs.declared.refusal.CheckFault.{CheckFault}
@@ -26,8 +26,8 @@ use Rattle.checker.specs.Accepting.{program_of}
 use Rattle.checker.specs.Concluding.{Sound, Clear, Concluded}
 use Rattle.checker.specs.Concluding as Concluding
 use Rattle.checker.specs.Judging as Judging
-use Rattle.checker.proofs.Verdicts.{needs_met, needs_unmet}
-use Rattle.checker.proofs.Laying.{laid_tests}
+use Rattle.checker.proofs.Verdicts.{needs_met}
+use Rattle.checker.proofs.Laying.{sound_below, sound_above, below_given, sorted_from, laid_tests}
 
 -- sizes by either definition
 same_parts : (f : ℕ → ℕ) (r : TermRow) → with_parts f r ≡ syntax_parts f r
@@ -59,37 +59,9 @@ same_sizes k (r ∷ rs) =
 same_size : (rows : List TermRow) (n : ℕ) → size rows n ≡ syntax_size rows n
 same_size rows n = ap (λ (ms : List ℕ). get_or ms n 0) (same_sizes 0 rows)
 
--- the parts of a sound type
-sound_below : (low high : ℕ) (r : TypeRow) → TySound low high r → Below high r
-sound_below low high Row.Num s = tt
-sound_below low high Row.Never s = tt
-sound_below low high (Row.Fn a b) s = (s.0.1, s.1.1)
-sound_below low high (Row.Boxed a) s = s.1
-sound_below low high (Row.At a) s = s.1
-sound_below low high (Row.Both a b) s = (s.0.1, s.1.1)
-
-below_given : (n : ℕ) (r : TypeRow) → Below n r → Given n r
-below_given n Row.Num b = tt
-below_given n Row.Never b = tt
-below_given n (Row.Fn x y) b = b.0
-below_given n (Row.Boxed x) b = tt
-below_given n (Row.At x) b = tt
-below_given n (Row.Both x y) b = tt
-
-sound_above : (n high : ℕ) (r : TypeRow) → TySound (n + 1) high r → AboveType n r
-sound_above n high Row.Num s = tt
-sound_above n high Row.Never s = tt
-sound_above n high (Row.Fn a b) s = (omega (arith, s.0.0), omega (arith, s.1.0))
-sound_above n high (Row.Boxed a) s = omega (arith, s.0)
-sound_above n high (Row.At a) s = omega (arith, s.0)
-sound_above n high (Row.Both a b) s = (omega (arith, s.0.0), omega (arith, s.1.0))
-
+-- sound types name parts behind them
 pub sorted_types : (high k : ℕ) (rows : List TypeRow) → ((n : ℕ) → n < length rows → TySound (k + n + 1) high (get_or rows n Row.Num)) → Sorted AboveType k rows
-sorted_types high k [] h = tt
-sorted_types high k (r ∷ rs) h = (
-  sound_above k high r (subst (λ m. TySound m high r) (let e : k + 0 + 1 ≡ k + 1 = omega arith in e) (h 0 (omega arith))),
-  sorted_types high (suc k) rs (λ n l. subst (λ m. TySound m high (get_or rs n Row.Num)) (let e : k + suc n + 1 ≡ suc k + n + 1 = omega arith in e) (h (suc n) (omega arith))),
-)
+sorted_types high k rows h = sorted_from k rows (λ n l. sound_above (k + n) high (get_or rows n Row.Num) (h n l))
 
 -- a table of written types alone
 laid_written : (types : List TypeRow) → ((n : ℕ) → n < length types → TySound (n + 1) (length types) (get_or types n Row.Num)) → Laid (length types) types
@@ -163,8 +135,3 @@ module _ (t : Tables) (c : Context) (sound : Sound t) (rows : rows_of c ≡ t.ty
       let j2 : Judged c (verdict c t.stations t.terms 0 (Site t.start)) r more d =
       subst (λ x. Judged c (verdict c t.stations t.terms 0 (Site x)) r more d) u (subst (λ x. Judged c (verdict c t.stations x 0 (Site start)) r more d) q (subst (λ x. Judged c (verdict c x terms 0 (Site start)) r more d) p j)) in
       record { answer = answers_whole r more d h2 s j2.answer }
-
--- a program that starts nowhere is refused as term 0
-pub nowhere_concluded : (t : Tables) (stations : List Station) (start : ℕ) (d : Context) → stations ≡ t.stations → start ≡ t.start → length stations ≤ start → Concluded t (Err (Unbound 0)) d
-nowhere_concluded t stations start d p u h =
-    record { answer = needs_unmet (dec_lt t.start (length t.stations)) (Unbound 0) (judge (program_of t) 0 closed (site t.start)) (λ l. omega (arith, u, ap length p)) }

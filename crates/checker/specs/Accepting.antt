@@ -1,24 +1,29 @@
 -- What checking answers, and what the place for programs holds afterwards.
-use Rattle.std.specs.Prelude.{cond, Ok, Err, vec_items, Result}
+use Rattle.std.specs.Prelude.{List, Some, None, Ok, Err, Option, Result}
 use Rattle.lines.specs.declared.refusal.Refusal.{Refusal}
 use Rattle.lines.specs.declared.refusal.Refusal.TheVariants.{Check, Nothing}
-use Rattle.instruments.specs.Sheets.{stations_of}
 use Rattle.syntax.specs.Place.{Tables, Place as TextPlace}
 use Rattle.syntax.specs.Place.Place.{empty as no_text, full as a_text}
 use Rattle.calculus.specs.Types.{Ty}
 use Rattle.calculus.specs.Program.{Program}
 use Rattle.calculus.specs.Checker.{Checked, typed, refused, check}
 use Rattle.checker.specs.declared.accepted.Accepted.{Accepted}
-use Rattle.checker.specs.TypeTable.{meaning}
-use Rattle.checker.specs.Typed.{program_with}
+use Rattle.checker.specs.declared.accepted.Entry.{Entry}
+use Rattle.syntax.specs.declared.program.Ty.{Ty as TypeRow}
+use Rattle.syntax.specs.declared.program.Term.{Term as TermRow}
+use Rattle.checker.specs.Typed.{program_kept, type_kept}
 
 -- a place is empty, or full with a program and its type
 pub data Place : Type 0 where
   empty : Place
   full : Program → Ty → Place
 
+abbrev pub kept : Option Entry → List TypeRow → List TermRow → Place
+kept (Some e) types terms = full (program_kept e types terms) (type_kept e types)
+kept None types terms = empty
+
 abbrev pub place : Accepted → Place
-place a = cond a.full (full (program_with a.written (vec_items a.types) (vec_items a.terms) (stations_of a.sheet) a.start) (meaning a.written (vec_items a.types) a.ty)) empty
+place a = kept a.entry a.types.items a.terms.items
 
 -- the program of a text's tables
 abbrev pub program_of : Tables → Program

@@ -1,5 +1,5 @@
 -- What judging a term answers and leaves.
-use Rattle.std.specs.Prelude.{◌≡◌, ℕ, ◌+◌, ◌<◌, ◌≤◌, Bool, true, false, cond, List, [], ◌∷◌, ◌++◌, length, take, is_some, Some, None, Ok, Err, Option, Result, slice_index_or}
+use Rattle.std.specs.Prelude.{◌≡◌, ℕ, ◌+◌, ◌<◌, ◌≤◌, Bool, true, false, cond, List, [], ◌∷◌, ◌++◌, length, take, Ok, Err, Result, slice_index_or}
 use Rattle.syntax.specs.declared.program.Mobile.{Mobile}
 use Rattle.syntax.specs.declared.program.Mobile.TheVariants.{Code, Address, Number}
 use Rattle.lines.specs.declared.refusal.CheckFault.{CheckFault}
@@ -17,6 +17,8 @@ use Rattle.checker.specs.declared.context.At.{At}
 use Rattle.checker.specs.declared.context.Height.{Height}
 use Rattle.checker.specs.declared.context.Context.{Context}
 use Rattle.checker.specs.declared.context.Bound.{Bound}
+use Rattle.checker.specs.declared.spot.Spot.{Spot}
+use Rattle.instruments.specs.Sheets.{stations_of}
 use Rattle.checker.specs.TypeTable.{Laid}
 use Rattle.checker.specs.Comparing.{alike}
 use Rattle.checker.specs.Scopes.{values_of, continuations_of, rows_of, meaning_of, context_of, world_of, Kept}
@@ -124,6 +126,25 @@ pub record Same (c d : Context) : Type 0 where
   pub height : d.height ≡ c.height
   pub kept : Kept c.height c d
 
+-- what judging the term at a spot asks, where it has this row
+pub record AsksRow (c : Context) (s : Spot) (r : TermRow) : Type 0 where
+  pub asks : Asks c s.terms.now s.term
+  pub row : slice_index_or s.terms.now s.term (Term.Num 0) ≡ r
+
+-- the verdict on the term at a spot
+abbrev pub verdict_at : Context → Spot → Checked
+verdict_at c s = verdict c (stations_of s.sheet.now) s.terms.now s.term s.world
+
+-- what judging it answers and leaves
+pub record Judges (c : Context) (s : Spot) (r : Result ℕ CheckFault) (d : Context) : Type 0 where
+  pub judged : Judged c (verdict_at c s) r (size s.terms.now s.term) d
+  pub same : Same c d
+
+-- the same where it has this row
+pub record JudgesRow (c : Context) (s : Spot) (row : TermRow) (r : Result ℕ CheckFault) (d : Context) : Type 0 where
+  pub judged : Judged c (row_verdict c (stations_of s.sheet.now) s.terms.now s.term row s.world) r (size s.terms.now s.term) d
+  pub same : Same c d
+
 -- one height is under another
 pub record Under (h k : Height) : Type 0 where
   pub values : h.values ≤ k.values
@@ -136,60 +157,26 @@ pub record Built (c : Context) (row : TypeRow) (n : ℕ) (d : Context) : Type 0 
   pub rows : rows_of d ≡ rows_of c ++ row ∷ []
   pub same : Same c d
 
--- the parts of a row of a form
-abbrev pub fn_parts : TypeRow → Option (ℕ × ℕ)
-fn_parts Row.Num = None
-fn_parts Row.Never = None
-fn_parts (Row.Fn a b) = Some (a, b)
-fn_parts (Row.Boxed a) = None
-fn_parts (Row.At a) = None
-fn_parts (Row.Both a b) = None
-
-abbrev pub boxed_part : TypeRow → Option ℕ
-boxed_part Row.Num = None
-boxed_part Row.Never = None
-boxed_part (Row.Fn a b) = None
-boxed_part (Row.Boxed a) = Some a
-boxed_part (Row.At a) = None
-boxed_part (Row.Both a b) = None
-
-abbrev pub at_part : TypeRow → Option ℕ
-at_part Row.Num = None
-at_part Row.Never = None
-at_part (Row.Fn a b) = None
-at_part (Row.Boxed a) = None
-at_part (Row.At a) = Some a
-at_part (Row.Both a b) = None
-
-abbrev pub both_parts : TypeRow → Option (ℕ × ℕ)
-both_parts Row.Num = None
-both_parts Row.Never = None
-both_parts (Row.Fn a b) = None
-both_parts (Row.Boxed a) = None
-both_parts (Row.At a) = None
-both_parts (Row.Both a b) = Some (a, b)
-
-abbrev pub num_row : TypeRow → Bool
-num_row Row.Num = true
-num_row Row.Never = false
-num_row (Row.Fn a b) = false
-num_row (Row.Boxed a) = false
-num_row (Row.At a) = false
-num_row (Row.Both a b) = false
-
-abbrev pub never_row : TypeRow → Bool
-never_row Row.Num = false
-never_row Row.Never = true
-never_row (Row.Fn a b) = false
-never_row (Row.Boxed a) = false
-never_row (Row.At a) = false
-never_row (Row.Both a b) = false
-
 -- a type that a get may bring
 abbrev pub carried_row : Mobile → TypeRow → Bool
-carried_row Code r = is_some (boxed_part r)
-carried_row Address r = is_some (at_part r)
-carried_row Number r = num_row r
+carried_row Code Row.Num = false
+carried_row Code Row.Never = false
+carried_row Code (Row.Fn a b) = false
+carried_row Code (Row.Boxed a) = true
+carried_row Code (Row.At a) = false
+carried_row Code (Row.Both a b) = false
+carried_row Address Row.Num = false
+carried_row Address Row.Never = false
+carried_row Address (Row.Fn a b) = false
+carried_row Address (Row.Boxed a) = false
+carried_row Address (Row.At a) = true
+carried_row Address (Row.Both a b) = false
+carried_row Number Row.Num = true
+carried_row Number Row.Never = false
+carried_row Number (Row.Fn a b) = false
+carried_row Number (Row.Boxed a) = false
+carried_row Number (Row.At a) = false
+carried_row Number (Row.Both a b) = false
 
 -- a part is held to the type that it needs
 abbrev pub held : Ty → Ty → ℕ → Result Unit CheckFault

@@ -31,7 +31,7 @@ around M vs n ks = record { values = map (bound_of M) vs; worlds = n; continuati
 
 -- the types of a scope list, and what its numbers stand for
 abbrev pub rows_of : Context → List TypeRow
-rows_of c = vec_items c.types
+rows_of c = c.types.items
 
 abbrev pub meaning_of : Context → ℕ → Ty
 meaning_of c = meaning c.written (rows_of c)

@@ -27,6 +27,7 @@ impl Drop for Scope<'_> {
     }
 }
 
+// A value and a continuation are bound by two methods: one for both would be handed the list and its count, and be no shorter.
 impl Context {
     // Binds a value with a type, at a world.
     pub(crate) fn bind_value(&mut self, ty: u16, world: At)

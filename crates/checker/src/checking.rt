@@ -1,5 +1,5 @@
 // Checking the program of a text place into a place for accepted programs.
-ghost use Rattle.std.specs.Prelude.{◌≡◌, ◌≤◌, length, IfOk, Ok, vec_capacity};
+ghost use Rattle.std.specs.Prelude.{◌≡◌, ◌≤◌, length, IfOk, Ok};
 ghost use Rattle.syntax.specs.Place.{tables, place as text_place};
 ghost use Rattle.calculus.specs.Checker.{CheckDecides};
 ghost use Rattle.checker.specs.Scopes.{rows_of, meaning_of};
@@ -7,34 +7,23 @@ ghost use Rattle.checker.specs.Accepting.{place as place_of, program_of, answere
 ghost use Rattle.checker.specs.Accepting.Place.{empty, full as a_program};
 ghost use Rattle.checker.specs.Concluding.{Sound, Clear, Concluded};
 
-use crate::accepted::Accepted;
+use crate::accepted::{Accepted, Entry};
 use crate::context::{At, Bound, Context, Height};
 use crate::scopes::ScopeList;
-use instruments::sheet::Sheet;
+use crate::spot::Spot;
 use lines::refusal::{CheckFault, Refusal};
+use rows::Rows;
 use std::alloc::{AllocError, Global};
 use syntax::program::Ty;
 use syntax::table::Program;
 use syntax::text::Text;
-
-// Copies rows into a table that has room for them, in the place of what it held.
-fn copy_rows<T: Copy>(from: &[T], to: &mut Vec<T>)
-    requires { length from.now ≤ vec_capacity to.old }
-    ensures items { to.new.items ≡ from.now }
-    ensures capacity { vec_capacity to.new ≡ vec_capacity to.old }
-{
-    to.clear();
-    for row in from {
-        to.push_reserved(*row);
-    }
-}
 
 impl ScopeList {
     // A scope list with room for every program; nothing is bound.
     pub fn new(heap: Global) -> Result<ScopeList, AllocError>
         ensures { IfOk result (λ s. s.context.height ≡ record { values = 0; worlds = 0; continuations = 0 }) }
     {
-        let types = Vec::with_capacity(heap, 1536)?;
+        let types = Rows::new(heap)?;
         let nothing = Bound {
             ty: 0,
             world: At::Site(0),
@@ -65,7 +54,7 @@ impl Context {
         ensures written { self.new.written ≡ length types.now }
         ensures height { self.new.height ≡ self.old.height }
     {
-        copy_rows(types, &mut self.types);
+        let _ = self.types.replace(types);
         self.written = types.len();
     }
 
@@ -82,7 +71,12 @@ impl Context {
         if start as usize >= sheet.len() {
             return Err(CheckFault::Unbound(0));
         }
-        self.judge(program.terms(), &sheet, 0, At::Site(start))
+        self.judge(Spot {
+            terms: program.terms(),
+            sheet: &sheet,
+            term: 0,
+            world: At::Site(start),
+        })
     }
 }
 
@@ -91,16 +85,10 @@ impl Accepted {
     pub fn new(heap: Global) -> Result<Accepted, AllocError>
         ensures { IfOk result (λ a. place_of a ≡ empty) }
     {
-        let types = Vec::with_capacity(heap, 1536)?;
-        let terms = Vec::with_capacity(heap, 1024)?;
         Ok(Accepted {
-            full: false,
-            written: 0,
-            types,
-            terms,
-            sheet: Sheet::new(),
-            start: 0,
-            ty: 0,
+            types: Rows::new(heap)?,
+            terms: Rows::new(heap)?,
+            entry: None,
         })
     }
 
@@ -111,13 +99,14 @@ impl Accepted {
         ensures place { place_of self.new ≡ a_program (program_of (tables program.now)) (meaning_of context.old ty) }
         ensures height { context.new.height ≡ context.old.height }
     {
-        copy_rows(program.terms(), &mut self.terms);
+        let _ = self.terms.replace(program.terms());
         std::mem::swap(&mut self.types, &mut context.types);
-        self.written = context.written;
-        self.sheet = program.sheet();
-        self.start = program.start();
-        self.ty = ty;
-        self.full = true;
+        self.entry = Some(Entry {
+            written: context.written,
+            sheet: program.sheet(),
+            start: program.start(),
+            ty,
+        });
     }
 }
 

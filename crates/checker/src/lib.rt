@@ -1,5 +1,5 @@
 // Type-checking a program.
-#![tactic(auto)]
+#![tactic(auto, using(lines::proofs::Pieces::then))]
 
 pub mod accepted;
 mod binding;
@@ -11,5 +11,6 @@ pub mod naming;
 pub mod programs;
 pub mod scopes;
 pub mod sheets;
+mod spot;
 mod tables;
 pub mod types;

@@ -1,71 +1,78 @@
 // Writing the type of an accepted program.
-ghost use Rattle.std.specs.Prelude.{◌≡◌, ◌<◌, length};
+ghost use Rattle.std.specs.Prelude.{◌≡◌, ◌<◌, ◌++◌, length, codes};
 ghost use Rattle.lines.specs.Writing.{Writes};
-ghost use Rattle.checker.specs.TypeTable.{Laid, meaning};
+ghost use Rattle.checker.specs.TypeTable.{meaning};
 ghost use Rattle.checker.specs.Accepting.{place as place_of};
 ghost use Rattle.checker.specs.TypeLine.{type_text, type_line, type_written, type_written_after};
 
 use crate::accepted::Accepted;
+use crate::types::TypeRows;
 use lines::pen::Pen;
 use lines::refusal::{Refusal, Short};
+use lines::writing::Printed;
 use syntax::program::Ty;
 
-// The type with a number.
-fn put_type(
-    types: &[Ty],
-    written: usize,
-    pen: &mut Pen,
-    out: &mut [u8],
-    number: u16,
-) -> Result<(), Short>
-    requires laid { Laid written types.now }
-    requires known { number < length types.now }
-    ensures { Writes pen.old out.old (type_text (meaning written types.now number)) result pen.new out.new }
-{
-    match types[number as usize] {
-        Ty::Num => pen.word(out, b"num"),
-        Ty::Never => pen.word(out, b"none"),
-        Ty::Fn { from, to } => {
-            pen.word(out, b"(fn ")?;
-            put_type(types, written, pen, out, from)?;
-            pen.word(out, b" ")?;
-            put_type(types, written, pen, out, to)?;
-            pen.word(out, b")")
-        }
-        Ty::Boxed(part) => {
-            pen.word(out, b"(box ")?;
-            put_type(types, written, pen, out, part)?;
-            pen.word(out, b")")
-        }
-        Ty::At(part) => {
-            pen.word(out, b"(at ")?;
-            put_type(types, written, pen, out, part)?;
-            pen.word(out, b")")
-        }
-        Ty::Both { left, right } => {
-            pen.word(out, b"(both ")?;
-            put_type(types, written, pen, out, left)?;
-            pen.word(out, b" ")?;
-            put_type(types, written, pen, out, right)?;
-            pen.word(out, b")")
+// Not the writer of program texts: here built types stand behind the written ones, and no depth bounds them. That a part is in the table
+// is asked by one line each: a struct of table and number would be made anew for each part.
+impl TypeRows<'_> {
+    // A word, a type and the bracket that closes it.
+    #[cycle(put_put_one_put_two)]
+    fn put_one(self, pen: &mut Pen<'_>, word: &[u8], part: u16) -> Result<(), Short>
+        requires { part < length self.rows.now }
+        ensures { Writes pen.old (word.now ++ (type_text (meaning self.entry.written self.entry.rows.now part) ++ codes ")")) result pen.new }
+    {
+        pen.word(word)?;
+        self.put(pen, part)?;
+        pen.word(b")")
+    }
+
+    // A word, two types and the bracket that closes it.
+    #[cycle(put_put_one_put_two)]
+    fn put_two(self, pen: &mut Pen<'_>, word: &[u8], left: u16, right: u16) -> Result<(), Short>
+        requires left { left < length self.rows.now }
+        requires right { right < length self.rows.now }
+        ensures { Writes pen.old (word.now ++ (type_text (meaning self.entry.written self.entry.rows.now left) ++ (codes " " ++ (type_text (meaning self.entry.written self.entry.rows.now right) ++ codes ")")))) result pen.new }
+    {
+        pen.word(word)?;
+        self.put(pen, left)?;
+        pen.word(b" ")?;
+        self.put(pen, right)?;
+        pen.word(b")")
+    }
+
+    // The type with a number.
+    #[cycle(put_put_one_put_two)]
+    fn put(self, pen: &mut Pen<'_>, number: u16) -> Result<(), Short>
+        requires { number < length self.rows.now }
+        ensures { Writes pen.old (type_text (meaning self.entry.written self.entry.rows.now number)) result pen.new }
+    {
+        match self.rows[number as usize] {
+            Ty::Num => pen.word(b"num"),
+            Ty::Never => pen.word(b"none"),
+            Ty::Fn { from, to } => self.put_two(pen, b"(fn ", from, to),
+            Ty::Both { left, right } => self.put_two(pen, b"(both ", left, right),
+            Ty::Boxed(part) => self.put_one(pen, b"(box ", part),
+            Ty::At(part) => self.put_one(pen, b"(at ", part),
         }
     }
 }
 
-fn put_line(
-    types: &[Ty],
-    written: usize,
-    pen: &mut Pen,
-    out: &mut [u8],
+// The type with a number, as the line that names it.
+#[derive(Clone, Copy)]
+struct TypeLine<'a> {
+    types: TypeRows<'a>,
     number: u16,
-) -> Result<(), Short>
-    requires laid { Laid written types.now }
-    requires known { number < length types.now }
-    ensures { Writes pen.old out.old (type_line (meaning written types.now number)) result pen.new out.new }
-{
-    pen.word(out, b"(type ")?;
-    put_type(types, written, pen, out, number)?;
-    pen.word(out, b")\n")
+    ghost known: { number < length types.rows.now },
+}
+
+impl Printed for TypeLine<'_> {
+    ghost text = { λ t. type_line (meaning t.types.written t.types.rows.now t.number) };
+
+    fn put(&self, pen: &mut Pen<'_>) -> Result<(), Short> {
+        pen.word(b"(type ")?;
+        self.types.put(pen, self.number)?;
+        pen.word(b")\n")
+    }
 }
 
 impl Accepted {
@@ -75,20 +82,17 @@ impl Accepted {
         ensures value { result ≡ type_written (place_of self.now) out.old }
         ensures after { out.new ≡ type_written_after (place_of self.now) out.old }
     {
-        if !self.full {
+        let Some(entry) = self.entry else {
             return Err(Refusal::Nothing);
+        };
+        let types = TypeRows {
+            rows: self.types.as_slice(),
+            written: entry.written,
+        };
+        TypeLine {
+            types,
+            number: entry.ty,
         }
-        let mut nothing = [0u8; 0];
-        let mut measure = Pen::new(out.len());
-        put_line(
-            self.types.as_slice(),
-            self.written,
-            &mut measure,
-            &mut nothing,
-            self.ty,
-        )?;
-        let mut pen = Pen::new(out.len());
-        put_line(self.types.as_slice(), self.written, &mut pen, out, self.ty)?;
-        Ok(pen.at)
+        .write(out)
     }
 }

@@ -21,13 +21,11 @@ impl Accepted {
         ensures is { MatchOption result (place_of self.now ≡ empty) (λ t. Views (place_of self.now) t.types.now t.terms.now t.start) }
         ensures carries { Carries (place_of self.now) }
     {
-        if !self.full {
-            return None;
-        }
+        let entry = self.entry?;
         Some(Tables {
-            types: &self.types[..self.written],
+            types: &self.types[..entry.written],
             terms: self.terms.as_slice(),
-            start: self.start,
+            start: entry.start,
         })
     }
 }

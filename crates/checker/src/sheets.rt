@@ -12,9 +12,9 @@ impl Accepted {
     pub fn sheet(&self) -> Result<Sheet, Refusal>
         ensures { stations_told result ≡ place_stations (place_of self.now) }
     {
-        if !self.full {
+        let Some(entry) = self.entry else {
             return Err(Refusal::Nothing);
-        }
-        Ok(self.sheet)
+        };
+        Ok(entry.sheet)
     }
 }

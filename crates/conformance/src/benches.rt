@@ -1,4 +1,5 @@
 // Benches and recorded sheets.
+use crate::outcomes::code_of;
 use instruments::bench::Bench;
 use instruments::record::{Recorded, Row};
 use instruments::sheet::{Sheet, Station};
@@ -10,13 +11,6 @@ fn answer(r: Result<u16, RegisterFault>) -> (u16, usize) {
     match r {
         Ok(n) => (0, n as usize),
         Err(fault) => fault.code(),
-    }
-}
-
-fn done(r: Result<(), RegisterFault>) -> u16 {
-    match r {
-        Ok(()) => 0,
-        Err(fault) => fault.code().0,
     }
 }
 
@@ -34,24 +28,24 @@ fn a_bench_is_silent_until_placed(rt: HostRuntime) {
     let mut bench = Bench::new(&one_site());
     assert_eq!(rt; answer(bench.gauge(0, 1)), (41, 0));
     assert_eq!(rt; answer(bench.gauge(0, 2)), (40, 0));
-    assert_eq!(rt; done(bench.place_gauge(0, 1, Some(1204))), 0);
+    assert_eq!(rt; code_of(bench.place_gauge(0, 1, Some(1204))).0, 0);
     assert_eq!(rt; answer(bench.gauge(0, 1)), (0, 1204));
     assert_eq!(rt; answer(bench.gauge(0, 0)), (41, 0));
-    assert_eq!(rt; done(bench.place_gauge(0, 2, Some(5))), 40);
-    assert_eq!(rt; done(bench.place_gauge(1, 0, None)), 40);
-    assert_eq!(rt; done(bench.place_gauge(0, 1, None)), 0);
+    assert_eq!(rt; code_of(bench.place_gauge(0, 2, Some(5))).0, 40);
+    assert_eq!(rt; code_of(bench.place_gauge(1, 0, None)).0, 40);
+    assert_eq!(rt; code_of(bench.place_gauge(0, 1, None)).0, 0);
     assert_eq!(rt; answer(bench.gauge(0, 1)), (41, 0));
 }
 
 #[test]
 fn a_gate_is_placed_before_it_is_set(rt: HostRuntime) {
     let mut bench = Bench::new(&one_site());
-    assert_eq!(rt; done(bench.set_gate(0, 0, 9)), 41);
-    assert_eq!(rt; done(bench.place_gate(0, 0, Some(1))), 0);
-    assert_eq!(rt; done(bench.set_gate(0, 0, 9)), 0);
+    assert_eq!(rt; code_of(bench.set_gate(0, 0, 9)).0, 41);
+    assert_eq!(rt; code_of(bench.place_gate(0, 0, Some(1))).0, 0);
+    assert_eq!(rt; code_of(bench.set_gate(0, 0, 9)).0, 0);
     assert_eq!(rt; answer(bench.gate(0, 0)), (0, 9));
-    assert_eq!(rt; done(bench.set_gate(0, 1, 9)), 40);
-    assert_eq!(rt; done(bench.place_gate(0, 1, None)), 40);
+    assert_eq!(rt; code_of(bench.set_gate(0, 1, 9)).0, 40);
+    assert_eq!(rt; code_of(bench.place_gate(0, 1, None)).0, 40);
 }
 
 #[test]

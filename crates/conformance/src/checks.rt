@@ -1,4 +1,5 @@
 // Checking: accepted programs, and each refusal with the term that it names.
+use crate::outcomes::code_of;
 use checker::accepted::Accepted;
 use checker::checking::check as check_program;
 use checker::scopes::ScopeList;
@@ -6,7 +7,7 @@ use std::alloc::AllocError;
 use std::test::Fail;
 use syntax::text::Text;
 
-// A text place, a scope list and a program place.
+// A text place, a scope list and a program place, as the program `gateway` has them, which is no library.
 #[derive(Drop)]
 struct Desk {
     text: Text,
@@ -28,10 +29,7 @@ fn outcome(desk: &mut Desk, bytes: &[u8]) -> (u16, usize) {
     if let Err(refusal) = desk.text.read(bytes) {
         return refusal.code();
     }
-    match check_program(&desk.text, &mut desk.scopes, &mut desk.program) {
-        Ok(()) => (0, 0),
-        Err(refusal) => refusal.code(),
-    }
+    code_of(check_program(&desk.text, &mut desk.scopes, &mut desk.program))
 }
 
 #[test]
@@ -211,10 +209,7 @@ fn a_refusal_inside_binders_leaves_nothing_bound(rt: HostRuntime) -> Result<(), 
     let mut d = empty_desk(&rt)?;
     let mut out = [0u8; 64];
     assert_eq!(rt;
-        match check_program(&d.text, &mut d.scopes, &mut d.program) {
-            Ok(()) => (0, 0),
-            Err(refusal) => refusal.code()
-        },
+        code_of(check_program(&d.text, &mut d.scopes, &mut d.program)),
         (25, 0)
     );
     assert_eq!(rt;

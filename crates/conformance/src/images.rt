@@ -1,9 +1,10 @@
 // The bus image of two sites: a gauge at the first, a gate at the second.
+use crate::outcomes::code_of;
 use instruments::image::Image;
 use instruments::laws::confirm;
 use instruments::makes;
 use instruments::works::{Gauges, Works};
-use lines::refusal::{ImageFault, RegisterFault};
+use lines::refusal::RegisterFault;
 use std::test::Fail;
 
 fn two_sites() -> [u8; 280] {
@@ -31,20 +32,6 @@ fn number(r: Result<u16, RegisterFault>) -> Result<u16, Fail> {
     }
 }
 
-fn refusal<T: Drop>(r: Result<T, RegisterFault>) -> (u16, usize) {
-    match r {
-        Ok(_) => (0, 0),
-        Err(fault) => fault.code(),
-    }
-}
-
-fn image_refusal(bytes: &[u8]) -> (u16, usize) {
-    match makes::check(bytes) {
-        Ok(()) => (0, 0),
-        Err(fault) => fault.code(),
-    }
-}
-
 #[test]
 fn shows_the_number_high_byte_first(rt: HostRuntime) -> Result<(), Fail> {
     let image = made(&rt, &two_sites())?;
@@ -65,12 +52,12 @@ fn registers_that_do_not_answer(rt: HostRuntime) -> Result<(), Fail> {
     bytes[4] = 2;
     bytes[148] = 0;
     let mut image = made(&rt, &bytes)?;
-    assert_eq!(rt; refusal(image.gauge(0, 0)), (41, 0));
-    assert_eq!(rt; refusal(image.gauge(0, 1)), (40, 0));
-    assert_eq!(rt; refusal(image.gauge(2, 0)), (40, 2));
-    assert_eq!(rt; refusal(image.gate(1, 0)), (41, 1));
-    assert_eq!(rt; refusal(image.set_gate(1, 0, 9)), (41, 1));
-    assert_eq!(rt; refusal(image.set_gate(1, 1, 9)), (40, 1));
+    assert_eq!(rt; code_of(image.gauge(0, 0)), (41, 0));
+    assert_eq!(rt; code_of(image.gauge(0, 1)), (40, 0));
+    assert_eq!(rt; code_of(image.gauge(2, 0)), (40, 2));
+    assert_eq!(rt; code_of(image.gate(1, 0)), (41, 1));
+    assert_eq!(rt; code_of(image.set_gate(1, 0, 9)), (41, 1));
+    assert_eq!(rt; code_of(image.set_gate(1, 1, 9)), (40, 1));
     assert!(rt; image.bytes() == bytes.as_slice());
     Ok(())
 }
@@ -89,25 +76,25 @@ fn a_set_gate_is_two_bytes(rt: HostRuntime) -> Result<(), Fail> {
 #[test]
 fn lengths(rt: HostRuntime) {
     let bytes = [0u8; 2380];
-    assert_eq!(rt; image_refusal(&bytes[0..0]), (42, 0));
-    assert_eq!(rt; image_refusal(&bytes[0..139]), (42, 139));
-    assert_eq!(rt; image_refusal(&bytes[0..140]), (0, 0));
-    assert_eq!(rt; image_refusal(&bytes[0..141]), (42, 141));
-    assert_eq!(rt; image_refusal(&bytes[0..2240]), (0, 0));
-    assert_eq!(rt; image_refusal(&bytes[0..2380]), (42, 2380));
+    assert_eq!(rt; code_of(makes::check(&bytes[0..0])), (42, 0));
+    assert_eq!(rt; code_of(makes::check(&bytes[0..139])), (42, 139));
+    assert_eq!(rt; code_of(makes::check(&bytes[0..140])), (0, 0));
+    assert_eq!(rt; code_of(makes::check(&bytes[0..141])), (42, 141));
+    assert_eq!(rt; code_of(makes::check(&bytes[0..2240])), (0, 0));
+    assert_eq!(rt; code_of(makes::check(&bytes[0..2380])), (42, 2380));
 }
 
 #[test]
 fn counts_and_zero_bytes(rt: HostRuntime) {
     let mut bytes = two_sites();
     bytes[140] = 32;
-    assert_eq!(rt; image_refusal(&bytes), (0, 0));
+    assert_eq!(rt; code_of(makes::check(&bytes)), (0, 0));
     bytes[143] = 1;
-    assert_eq!(rt; image_refusal(&bytes), (43, 143));
+    assert_eq!(rt; code_of(makes::check(&bytes)), (43, 143));
     bytes[141] = 33;
-    assert_eq!(rt; image_refusal(&bytes), (43, 141));
+    assert_eq!(rt; code_of(makes::check(&bytes)), (43, 141));
     bytes[140] = 33;
-    assert_eq!(rt; image_refusal(&bytes), (43, 140));
+    assert_eq!(rt; code_of(makes::check(&bytes)), (43, 140));
     bytes[2] = 255;
-    assert_eq!(rt; image_refusal(&bytes), (43, 2));
+    assert_eq!(rt; code_of(makes::check(&bytes)), (43, 2));
 }

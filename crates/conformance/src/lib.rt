@@ -10,6 +10,8 @@ mod images;
 #[cfg(test)]
 mod machines;
 #[cfg(test)]
+mod outcomes;
+#[cfg(test)]
 mod refusals;
 #[cfg(test)]
 mod surveys;

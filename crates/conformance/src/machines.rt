@@ -1,4 +1,5 @@
 // Worked programs on a bench or an image: their steps, where the machine stands, and their answers.
+use crate::outcomes::code_of;
 use checker::accepted::Accepted;
 use checker::checking::check as check_program;
 use checker::scopes::ScopeList;
@@ -93,7 +94,7 @@ fn a_gauge_is_copied_to_a_gate(rt: HostRuntime) -> Result<(), Fail> {
     assert_eq!(rt; told(machine.run(&mut works, 4)), (1, 4));
     assert!(rt; stands(&machine, b"(stand 1 back 1 1 0 1)\n"));
     let mut out = [7u8; 32];
-    assert_eq!(rt; refusal(machine.write_answer(&mut out)), (33, 0));
+    assert_eq!(rt; code_of(machine.write_answer(&mut out)), (33, 0));
     assert_eq!(rt; told(machine.run(&mut works, 100000)), (0, 1));
     assert!(rt; stands(&machine, b"(stand 1 done 1 1 0 2)\n"));
     assert!(rt; answers(&machine, b"(answer (num 1204))\n"));
@@ -154,20 +155,13 @@ fn refused_before_a_step(rt: HostRuntime) -> Result<(), Fail> {
     let mut works = bench();
     let mut out = [7u8; 8];
     assert_eq!(rt; told(empty.run(&mut works, 1)), (25, 0));
-    assert_eq!(rt; refusal(empty.write_stand(&mut out)), (25, 0));
-    assert_eq!(rt; refusal(empty.write_answer(&mut out)), (25, 0));
+    assert_eq!(rt; code_of(empty.write_stand(&mut out)), (25, 0));
+    assert_eq!(rt; code_of(empty.write_answer(&mut out)), (25, 0));
     let unaccepted = Accepted::new(rt.alloc())?;
     assert!(rt; empty.start(&unaccepted).is_err());
     let mut machine = started(&rt, COPYING)?;
     assert_eq!(rt; told(machine.run(&mut works, 1)), (30, 1));
-    assert_eq!(rt; refusal(machine.write_stand(&mut out)), (34, 0));
+    assert_eq!(rt; code_of(machine.write_stand(&mut out)), (34, 0));
     assert!(rt; &out[0..8] == [7u8; 8].as_slice());
     Ok(())
-}
-
-fn refusal(answer: Result<usize, Refusal>) -> (u16, usize) {
-    match answer {
-        Ok(_) => (0, 0),
-        Err(refusal) => refusal.code(),
-    }
 }

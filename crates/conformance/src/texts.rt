@@ -1,4 +1,5 @@
 // Program texts: what is read and written back, and which refusal each other text gets.
+use crate::outcomes::code_of;
 use std::alloc::AllocError;
 use std::process::Abort;
 use std::test::Fail;
@@ -27,10 +28,7 @@ fn restored(rt: &impl Abort, out: &[u8], length: usize, bytes: &[u8]) {
 }
 
 fn put(text: &mut Vec<u8>, word: &[u8]) -> Result<(), AllocError> {
-    for b in word {
-        text.push(*b)?;
-    }
-    Ok(())
+    text.extend_from_slice(word)
 }
 
 // A word as often as a number says.
@@ -216,20 +214,13 @@ fn lengths(rt: HostRuntime) -> Result<(), Fail> {
 fn a_refused_text_leaves_the_place(rt: HostRuntime) -> Result<(), Fail> {
     let mut text = Text::new(rt.alloc())?;
     let mut out = [7u8; 30];
-    assert_eq!(rt; refusal(text.write(&mut out)), (25, 0));
+    assert_eq!(rt; code_of(text.write(&mut out)), (25, 0));
     assert!(rt; text.read(b"(station 1 0)\n(run 0 (num 1))\n").is_ok());
     assert!(rt; text.read(b"(station 1 0)\n(run 0 (num 2)").is_err());
     assert!(rt; text.write(&mut out).is_ok());
     assert!(rt; &out[0..30] == b"(station 1 0)\n(run 0 (num 1))\n".as_slice());
     let mut short = [7u8; 29];
-    assert_eq!(rt; refusal(text.write(&mut short)), (34, 0));
+    assert_eq!(rt; code_of(text.write(&mut short)), (34, 0));
     assert!(rt; &short[0..29] == [7u8; 29].as_slice());
     Ok(())
-}
-
-fn refusal(r: Result<usize, lines::refusal::Refusal>) -> (u16, usize) {
-    match r {
-        Ok(_) => (0, 0),
-        Err(refusal) => refusal.code(),
-    }
 }

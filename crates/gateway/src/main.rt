@@ -60,6 +60,7 @@ fn run(rt: &HostRuntime) -> anyhow::Result<()> {
     print(rt, out.as_mut_slice(), written)
 }
 
+// As in the other program, by hand: this and the last lines of `print` are all that the two share, and no library of theirs would be plainer.
 fn main(rt: HostRuntime) -> ExitCode {
     match run(&rt) {
         Ok(()) => ExitCode::SUCCESS,

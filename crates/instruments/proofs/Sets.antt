@@ -1,20 +1,15 @@
 -- What setting a register leaves.
-use Rattle.std.proofs.Common.{◌≡◌, ℕ, ◌<◌, ◌≤◌, Bool, true, false, cond, ltb, List, [], map, length, get_or, set, Some, None, Ok, Err, Option, Result, sym, refl, ap, ◌∙◌, ⊎_elim, arith, length-set, ltb-true}
+use Rattle.std.proofs.Common.{◌≡◌, ℕ, ◌<◌, ◌≤◌, List, [], map, length, set, Some, None, Ok, Err, Option, Result, sym, refl, ap, ◌∙◌, ⊎_elim, arith, length-set}
 use Rattle.std.proofs.lemmas.List.{get_or_past, get_or-set_same, get_or-set_other, map-set, set-get_or, get_or-map}
 use Rattle.std.proofs.lemmas.Bool.{cases_eq, cases_lt}
+use Rattle.std.proofs.lemmas.Bool.Decides.{nat_tests}
 use Rattle.lines.specs.declared.refusal.RegisterFault.{RegisterFault}
-use Rattle.lines.specs.declared.refusal.RegisterFault.TheVariants.{NotFitted}
-use Rattle.instruments.specs.Registers.{Shown, site_row, heard, row_asked, asked, row_after, set_after, done, Elsewhere}
-use Rattle.instruments.specs.Rows.{row_fitted}
-
-row_ok : (t : Bool) (o : Result ℕ RegisterFault) (s n old : ℕ) → cond t o (Err (NotFitted s n)) ≡ Ok old → t ≡ true
-row_ok true o s n old e = refl
-row_ok false o s n old e = let z : ◌≡◌ {A = ℕ} 0 1 = cc in absurd (omega arith)
+use Rattle.instruments.specs.Registers.{Shown, site_row, row_asked, asked, row_after, set_after, done, Elsewhere}
 
 module _ (rows : Shown) (s n : ℕ) where
   -- a register that answers is fitted, at a site that stands
   fits : (old : ℕ) → asked rows s n ≡ Ok old → n < length (site_row rows s)
-  fits old e = ltb-true n (length (site_row rows s)) (row_ok (ltb n (length (site_row rows s))) (heard s n (get_or (site_row rows s) n None)) s n old e)
+  fits old e = grind (arith, nat_tests)
 
   stands : (old : ℕ) → asked rows s n ≡ Ok old → s < length rows
   stands old e = ⊎_elim (λ (h : s < length rows). h) (λ (h : length rows ≤ s). absurd (omega (arith, fits old e, ap length (get_or_past rows s [] h)))) (cases_lt s (length rows))
@@ -25,11 +20,6 @@ module _ (rows : Shown) (s n : ℕ) where
 
     new_row : site_row (set_after rows s n v) s ≡ set (site_row rows s) n (Some v)
     new_row = ap (λ (x : Shown). site_row x s) written_row ∙ get_or-set_same rows s (set (site_row rows s) n (Some v)) [] (stands old e)
-
-    pub set_shows : asked (set_after rows s n v) s n ≡ Ok v
-    set_shows =
-        ap (λ (x : List (Option ℕ)). row_asked x s n) new_row
-        ∙ row_fitted (set (site_row rows s) n (Some v)) s n (Some v) (rw length-set (fits old e)) (get_or-set_same (site_row rows s) n (Some v) None (fits old e))
 
     other_site : (t k : ℕ) → (t ≡ s → ⊥) → asked (set_after rows s n v) t k ≡ asked rows t k
     other_site t k ne = ap (λ (x : Shown). asked x t k) written_row ∙ ap (λ (x : List (Option ℕ)). row_asked x t k) (get_or-set_other rows s t (set (site_row rows s) n (Some v)) [] ne)
@@ -52,11 +42,8 @@ module _ (rows : Shown) (s n : ℕ) where
 
 pub done_ok : (r : Result ℕ RegisterFault) → done r ≡ Ok tt → (old : ℕ) × (r ≡ Ok old)
 done_ok (Ok old) e = (old, refl)
-done_ok (Err x) e = let z : ◌≡◌ {A = ℕ} 0 1 = cc in absurd (omega arith)
+done_ok (Err x) e = cc
 
 pub done_err : (r : Result ℕ RegisterFault) (x : RegisterFault) → done r ≡ Err x → r ≡ Err x
-done_err (Ok old) x e = let z : ◌≡◌ {A = ℕ} 0 1 = cc in absurd (omega arith)
+done_err (Ok old) x e = cc
 done_err (Err y) x e = cc
-
-pub not_both : (b : Bool) → b ≡ false → b ≡ true → ⊥
-not_both b p q = let z : ◌≡◌ {A = ℕ} 0 1 = cc in omega arith

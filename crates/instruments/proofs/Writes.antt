@@ -22,10 +22,10 @@ apart t s k n h l other =
 
 cond_some : (b : Bool) (x y z : ℕ) → cond b (Some x) None ≡ Some y → cond b (Some z) None ≡ Some z
 cond_some true x y z e = refl
-cond_some false x y z e = let q : ◌≡◌ {A = ℕ} 0 1 = cc in absurd (omega arith)
+cond_some false x y z e = cc
 
 heard_ok : (s n : ℕ) (o : Option ℕ) (v : ℕ) → heard s n o ≡ Ok v → o ≡ Some v
-heard_ok s n None v e = let q : ◌≡◌ {A = ℕ} 0 1 = cc in absurd (omega arith)
+heard_ok s n None v e = cc
 heard_ok s n (Some w) v e = cc
 
 module _ (bs : List ℕ) (s n v : ℕ) where

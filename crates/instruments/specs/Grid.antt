@@ -1,9 +1,9 @@
 -- Lemmas: what a recorded sheet shows.
-use Rattle.std.specs.Prelude.{◌≡◌, ℕ, ◌+◌, ◌<◌, ◌≤◌, List, [], map, length, drop, Some, None, Err, Option, ◌≢◌, slice_index_or}
-use Rattle.std.proofs.Common.{◌∙◌, arith, eq-eqb, ne_eqb, ⊎_elim}
+use Rattle.std.specs.Prelude.{◌≡◌, ℕ, ◌<◌, ◌≤◌, List, [], map, length, None, Err, Option}
+use Rattle.std.proofs.Common.{arith, ⊎_elim}
 use Rattle.std.specs.List.{range_with_len}
 use Rattle.std.proofs.lemmas.List.FromFn.{length-map-range_with_len, get_or-map-range_with_len}
-use Rattle.std.proofs.lemmas.List.{get_or_past, at_drop_more}
+use Rattle.std.proofs.lemmas.List.{get_or_past}
 use Rattle.lines.specs.declared.refusal.RegisterFault.TheVariants.{NotFitted}
 use Rattle.instruments.specs.Registers.{Few, site_row, heard, asked}
 use Rattle.std.proofs.lemmas.Bool.{cases_lt}
@@ -47,13 +47,3 @@ recorded_few rows = (
   omega (arith, recorded_length rows),
   λ s. ⊎_elim (λ (a : s < 16). omega (arith, recorded_width rows s a)) (λ (a : 16 ≤ s). omega (arith, recorded_past rows s a)) (cases_lt s 16),
 )
-
--- the row at i, met by a search that came to i
-pub first_hit : (rows : List Row) (s g i : ℕ) (d : Row) → i < length rows → (slice_index_or rows i d).site ≡ s → (slice_index_or rows i d).gauge ≡ g → first (drop i rows) s g ≡ Some (slice_index_or rows i d).number
-first_hit rows s g i d h p q = at_drop_more (λ rs. first rs s g) rows i d h ∙ rw (eq-eqb (slice_index_or rows i d).site s p, eq-eqb (slice_index_or rows i d).gauge g q)
-
-pub first_other_site : (rows : List Row) (s g i : ℕ) (d : Row) → i < length rows → ((slice_index_or rows i d).site ≢ s) → first (drop i rows) s g ≡ first (drop (i + 1) rows) s g
-first_other_site rows s g i d h p = at_drop_more (λ rs. first rs s g) rows i d h ∙ rw (ne_eqb (slice_index_or rows i d).site s p)
-
-pub first_other_gauge : (rows : List Row) (s g i : ℕ) (d : Row) → i < length rows → (slice_index_or rows i d).site ≡ s → ((slice_index_or rows i d).gauge ≢ g) → first (drop i rows) s g ≡ first (drop (i + 1) rows) s g
-first_other_gauge rows s g i d h p q = at_drop_more (λ rs. first rs s g) rows i d h ∙ rw (eq-eqb (slice_index_or rows i d).site s p, ne_eqb (slice_index_or rows i d).gauge g q)

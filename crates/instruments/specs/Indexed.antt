@@ -1,20 +1,16 @@
 -- Lemmas: registers and sites that a function of their number gives.
-use Rattle.std.specs.Prelude.{◌≡◌, ℕ, ◌<◌, ◌≤◌, List, [], map, length, None, Err, Option, ◌≢◌, slice_set}
+use Rattle.std.specs.Prelude.{◌≡◌, ℕ, ◌<◌, ◌≤◌, List, [], map, length, None, Option, ◌≢◌, slice_set}
 use Rattle.std.proofs.Common.{sym, ◌∙◌, ⊎_elim, arith}
 use Rattle.std.specs.List.{range_with_len}
 use Rattle.std.proofs.lemmas.List.FromFn.{length-map-range_with_len, get_or-map-range_with_len}
 use Rattle.std.proofs.lemmas.List.{get_or_past, ext_get_or, length-set, get_or-set_same, get_or-set_other}
 use Rattle.std.proofs.lemmas.Bool.{cases_eq}
-use Rattle.lines.specs.declared.refusal.RegisterFault.TheVariants.{NotFitted}
 use Rattle.instruments.specs.Registers.{site_row, heard, row_asked}
-use Rattle.instruments.specs.Rows.{row_fitted, row_unfitted}
+use Rattle.instruments.specs.Rows.{row_fitted}
 
 -- registers that a function of their number gives
 pub counted_fitted : (f : ℕ → Option ℕ) (k s n : ℕ) → n < k → row_asked (map f (range_with_len 0 k)) s n ≡ heard s n (f n)
 counted_fitted f k s n h = row_fitted (map f (range_with_len 0 k)) s n (f n) (rw (length-map-range_with_len f 0 k) h) (get_or-map-range_with_len f 0 k n n None h (omega arith))
-
-pub counted_unfitted : (f : ℕ → Option ℕ) (k s n : ℕ) → k ≤ n → row_asked (map f (range_with_len 0 k)) s n ≡ Err (NotFitted s n)
-counted_unfitted f k s n h = row_unfitted (map f (range_with_len 0 k)) s n (rw (length-map-range_with_len f 0 k) h)
 
 -- sites that a function of their number gives
 pub counted_row : (F : ℕ → List (Option ℕ)) (m s : ℕ) → s < m → site_row (map F (range_with_len 0 m)) s ≡ F s

@@ -1,3 +1,5 @@
+-- what a bounded list holds
+pub mod Items
 -- the limits of a sheet
 pub mod Fitted
 -- what a sheet says

@@ -1,15 +1,20 @@
 // What a bench does: it is made silent on a sheet, its registers are placed, and it is a works.
-ghost use Rattle.std.specs.Prelude.{◌≡◌, map};
+#![tactic(auto, using(crate::proofs::Sites::at_sites))]
+
+ghost use Rattle.std.specs.Prelude.{◌≡◌, map, MatchResult, Some, None as nothing};
+ghost use Rattle.std.specs.List.{slice_get};
+ghost use Rattle.lines.specs.declared.refusal.RegisterFault.TheVariants.{NotFitted};
+ghost use Rattle.instruments.specs.Items.{items_of};
 ghost use Rattle.instruments.specs.Registers.{placed, with_register};
 ghost use Rattle.instruments.specs.Sheets.{stations_of};
 ghost use Rattle.instruments.specs.Benches.{bench_gauges, bench_gates, silent_gauges, silent_gates};
 ghost use Rattle.instruments.specs.Fewness.{few_banks};
 ghost use Rattle.std.proofs.Common.{rules};
-ghost use Rattle.std.proofs.lemmas.List.{length-map, length-take-le};
+ghost use Rattle.std.proofs.lemmas.List.{length-map};
 
-use crate::banks;
-use crate::bench::{Bank, Bench};
-use crate::sheet::Sheet;
+use crate::bench::{Banks, Bench};
+use crate::bounded::Bounded;
+use crate::sheet::{Sheet, Station};
 use crate::works::{Gauges, Works};
 use lines::refusal::RegisterFault;
 
@@ -19,22 +24,24 @@ impl Bench {
         ensures gauges { bench_gauges result ≡ map silent_gauges (stations_of sheet.now) }
         ensures gates { bench_gates result ≡ map silent_gates (stations_of sheet.now) }
     {
-        let mut gauges = [Bank::silent(0); 16];
-        let mut gates = [Bank::silent(0); 16];
-        let count = sheet.count;
-        for site in 0..count {
-            let station = sheet.stations[site];
-            gauges[site] = Bank::silent(station.gauges);
-            gates[site] = Bank::silent(station.gates);
+        let mut sites = Bounded::filled(Banks::silent(Station::default()), 0);
+        for station in sheet.stations() {
+            sites.push(Banks::silent(*station));
         }
-        Bench {
-            count,
-            gauges,
-            gates,
-        }
+        Bench { sites }
     }
 
-    // Places a number or silence at a gauge; `NotFitted` where there is none.
+    // The registers of a site; `NotFitted`, of the register that was meant, where there is none.
+    fn banks(&self, site: usize, number: usize) -> Result<&Banks, RegisterFault>
+        ensures { MatchResult result (λ b. slice_get (items_of self.now.sites) site ≡ Some b.now) (λ e. (slice_get (items_of self.now.sites) site ≡ nothing) × (e ≡ NotFitted site number)) }
+    {
+        self.sites
+            .get(site)
+            .ok_or(RegisterFault::NotFitted { site, number })
+    }
+
+    // Places a number or silence at a gauge; `NotFitted` where there is none. Gauges and gates are placed by two calls of a few lines: one
+    // for both would be handed the kind and match on it.
     pub fn place_gauge(
         &mut self,
         site: usize,
@@ -45,8 +52,11 @@ impl Bench {
         ensures after { bench_gauges self.new ≡ with_register (bench_gauges self.old) site number shows }
         ensures same { bench_gates self.new ≡ bench_gates self.old }
     {
-        let count = self.count;
-        banks::place(&mut self.gauges, count, site, number, shows)
+        // The banks are copied out and back: a `&mut` into a list that lies in the value gets no proof from the toolchain.
+        let mut banks = *self.banks(site, number)?;
+        banks.gauges.place(site, number, shows)?;
+        self.sites.set(site, banks);
+        Ok(())
     }
 
     // Places a number or silence at a gate; `NotFitted` where there is none.
@@ -60,46 +70,50 @@ impl Bench {
         ensures after { bench_gates self.new ≡ with_register (bench_gates self.old) site number shows }
         ensures same { bench_gauges self.new ≡ bench_gauges self.old }
     {
-        let count = self.count;
-        banks::place(&mut self.gates, count, site, number, shows)
+        let mut banks = *self.banks(site, number)?;
+        banks.gates.place(site, number, shows)?;
+        self.sites.set(site, banks);
+        Ok(())
     }
 }
 
 impl Gauges for Bench {
     ghost readings = { bench_gauges };
 
-    ghost few = { λ b. few_banks b.gauges b.count b.few.0 b.few.1 };
+    ghost few = { λ b. few_banks (λ s. s.gauges) b.sites };
 
     fn sites(&self) -> usize {
-        self.count
+        self.sites.len()
     }
 
     fn gauges(&self, site: usize) -> usize {
-        banks::width(&self.gauges, self.count, site)
+        self.sites.get(site).map_or(0, |at| at.gauges.width())
     }
 
     fn gauge(&self, site: usize, number: usize) -> Result<u16, RegisterFault> {
-        banks::ask(&self.gauges, self.count, site, number)
+        self.banks(site, number)?.gauges.ask(site, number)
     }
 }
 
 impl Works for Bench {
     ghost settings = { bench_gates };
 
-    ghost level = { λ w. Prim.search (rules, length-map, length-take-le) };
+    ghost level = { λ w. Prim.search (rules, length-map) };
 
-    ghost fewer = { λ w. few_banks w.gates w.count w.few.0 w.few.2 };
+    ghost fewer = { λ b. few_banks (λ s. s.gates) b.sites };
 
     fn gates(&self, site: usize) -> usize {
-        banks::width(&self.gates, self.count, site)
+        self.sites.get(site).map_or(0, |at| at.gates.width())
     }
 
     fn gate(&self, site: usize, number: usize) -> Result<u16, RegisterFault> {
-        banks::ask(&self.gates, self.count, site, number)
+        self.banks(site, number)?.gates.ask(site, number)
     }
 
     fn set_gate(&mut self, site: usize, number: usize, value: u16) -> Result<(), RegisterFault> {
-        let count = self.count;
-        banks::set(&mut self.gates, count, site, number, value)
+        let mut banks = *self.banks(site, number)?;
+        banks.gates.set(site, number, value)?;
+        self.sites.set(site, banks);
+        Ok(())
     }
 }

@@ -1,7 +1,9 @@
 // An image is a works. Asking reads a register's bytes, setting writes the two bytes of a gate.
-ghost use Rattle.std.specs.Prelude.{◌≡◌, ℕ, ◌+◌, ◌*◌, ◌/◌, ◌<◌, ◌≤◌, true, length, is_ok, if◌then◌else◌, Some, Ok, vec_len, slice_index};
-ghost use Rattle.instruments.specs.Registers.{row_asked, asked, done, set_after};
-ghost use Rattle.instruments.specs.Layout.{register as the_register, image_gauges, image_gates, site_shown, put_gate, Spelled, Foreign};
+#![tactic(auto, using(crate::proofs::Wide::at_kinds))]
+
+ghost use Rattle.std.specs.Prelude.{◌≡◌, ℕ, ◌+◌, ◌*◌, ◌/◌, ◌<◌, ◌≤◌, true, length, is_ok, if◌then◌else◌, Some, Ok, slice_index};
+ghost use Rattle.instruments.specs.Registers.{site_row, asked, done, set_after};
+ghost use Rattle.instruments.specs.Layout.{register as the_register, shown, image_gauges, image_gates, put_gate, Spelled, Foreign};
 ghost use Rattle.instruments.specs.ShowsLemmas.{shown_few};
 ghost use Rattle.std.proofs.Common.{rules};
 ghost use Rattle.std.proofs.lemmas.List.FromFn.{length-map-range_with_len};
@@ -10,56 +12,77 @@ use crate::image::Image;
 use crate::works::{Gauges, Works};
 use lines::refusal::RegisterFault;
 
-// What a register shows whose answer bits begin at byte `bits` of the site and whose numbers begin at byte `numbers`.
-fn register(bytes: &[u8], site: usize, bits: usize, numbers: usize, n: usize) -> Option<u16>
-    requires within { 140 * site + 140 ≤ length bytes.now }
-    requires short { length bytes.now ≤ 2240 }
-    requires fields { (bits ≤ 8) × (numbers ≤ 76) × (n < 32) }
-    ensures value { result ≡ the_register bytes.now site bits numbers n }
-    ensures spelled { (v : ℕ) → result ≡ Some v → Spelled bytes.now site numbers n v }
-{
-    let start = 140 * site;
-    let answers = bytes[start + bits + n / 8];
-    if (answers >> (n % 8)) % 2 == 1 {
-        let high = bytes[start + numbers + 2 * n];
-        let low = bytes[start + numbers + 2 * n + 1];
-        Some(256 * high as u16 + low as u16)
-    } else {
-        None
-    }
-}
-
-// What asking a register answers whose count stands at byte `count` of the site.
-fn ask(
-    bytes: &[u8],
-    site: usize,
+// Which bytes of a site the registers of one kind have: their count, and where their answer bits and their numbers begin.
+#[derive(Clone, Copy)]
+struct Fields {
     count: usize,
     bits: usize,
     numbers: usize,
-    number: usize,
-) -> Result<u16, RegisterFault>
-    requires within { 140 * site + 140 ≤ length bytes.now }
-    requires short { length bytes.now ≤ 2240 }
-    requires fields { (bits ≤ 8) × (numbers ≤ 76) × (count < 4) }
-    requires fitted { slice_index bytes.now (140 * site + count) ≤ 32 }
-    ensures value { result ≡ row_asked (site_shown bytes.now site count bits numbers) site number }
-    ensures fits { is_ok result ≡ true → number < slice_index bytes.now (140 * site + count) }
-    ensures spelled { (v : ℕ) → result ≡ Ok v → Spelled bytes.now site numbers number v }
-{
-    if number >= bytes[140 * site + count] as usize {
-        return Err(RegisterFault::NotFitted { site, number });
-    }
-    match register(bytes, site, bits, numbers, number) {
-        Some(v) => Ok(v),
-        None => Err(RegisterFault::Silent { site, number }),
-    }
+    ghost within: { (count ≤ 1) × (bits ≤ 8) × (numbers ≤ 76) },
 }
 
-fn count_at(bytes: &[u8], site: usize, count: usize) -> usize
-    requires { (140 * site + count < length bytes.now) × (length bytes.now ≤ 2240) }
-    ensures { result ≡ slice_index bytes.now (140 * site + count) }
-{
-    bytes[140 * site + count] as usize
+const GAUGES: Fields = Fields {
+    count: 0,
+    bits: 4,
+    numbers: 12,
+};
+
+const GATES: Fields = Fields {
+    count: 1,
+    bits: 8,
+    numbers: 76,
+};
+
+impl Image {
+    // How many registers of a kind a site has.
+    fn width(&self, kind: Fields, site: usize) -> usize
+        ensures { result ≡ length (site_row (shown self.now.bytes.items kind.count kind.bits kind.numbers) site) }
+    {
+        if site < self.bytes.len() / 140 {
+            self.bytes[140 * site + kind.count] as usize
+        } else {
+            0
+        }
+    }
+
+    // What a register shows.
+    fn register(&self, kind: Fields, site: usize, number: usize) -> Option<u16>
+        requires { (site < length self.now.bytes.items / 140) × (number < 32) }
+        ensures value { result ≡ the_register self.now.bytes.items site kind.bits kind.numbers number }
+        ensures spelled { (v : ℕ) → result ≡ Some v → Spelled self.now.bytes.items site kind.numbers number v }
+    {
+        let answers = self.bytes[140 * site + kind.bits + number / 8];
+        if (answers >> (number % 8)) % 2 == 1 {
+            let at = 140 * site + kind.numbers + 2 * number;
+            Some(u16::from_be_bytes([self.bytes[at], self.bytes[at + 1]]))
+        } else {
+            None
+        }
+    }
+
+    // What asking a register answers.
+    fn ask(&self, kind: Fields, site: usize, number: usize) -> Result<u16, RegisterFault>
+        ensures value { result ≡ asked (shown self.now.bytes.items kind.count kind.bits kind.numbers) site number }
+        ensures fits { is_ok result ≡ true → (site < length self.now.bytes.items / 140) × (number < slice_index self.now.bytes.items (140 * site + kind.count)) }
+        ensures spelled { (v : ℕ) → result ≡ Ok v → Spelled self.now.bytes.items site kind.numbers number v }
+    {
+        if number >= self.width(kind, site) {
+            return Err(RegisterFault::NotFitted { site, number });
+        }
+        self.register(kind, site, number)
+            .ok_or(RegisterFault::Silent { site, number })
+    }
+
+    // Writes a number into the two bytes of a gate, the high byte first.
+    fn put(&mut self, site: usize, number: usize, value: u16)
+        requires { (site < length self.old.bytes.items / 140) × (number < 32) }
+        ensures { self.new.bytes.items ≡ put_gate self.old.bytes.items site number value }
+    {
+        let at = 140 * site + GATES.numbers + 2 * number;
+        let [high, low] = value.to_be_bytes();
+        self.bytes[at] = high;
+        self.bytes[at + 1] = low;
+    }
 }
 
 impl Gauges for Image {
@@ -72,36 +95,18 @@ impl Gauges for Image {
     }
 
     fn gauges(&self, site: usize) -> usize {
-        if site < self.bytes.len() / 140 {
-            count_at(self.bytes.as_slice(), site, 0)
-        } else {
-            0
-        }
+        self.width(GAUGES, site)
     }
 
     fn gauge(&self, site: usize, number: usize) -> Result<u16, RegisterFault>
         ensures value { result ≡ asked (image_gauges self.now.bytes.items) site number }
         ensures spelled { (v : ℕ) → result ≡ Ok v → Spelled self.now.bytes.items site 12 number v }
     {
-        if site >= self.bytes.len() / 140 {
-            return Err(RegisterFault::NotFitted { site, number });
-        }
-        ask(self.bytes.as_slice(), site, 0, 4, 12, number)
+        self.ask(GAUGES, site, number)
     }
 }
 
-// Writes a number into the two bytes of a gate, the high byte first.
-fn put(bytes: &mut Vec<u8>, site: usize, n: usize, value: u16)
-    requires within { 140 * site + 140 ≤ vec_len bytes.old }
-    requires short { vec_len bytes.old ≤ 2240 }
-    requires fitted { n < 32 }
-    ensures { bytes.new.items ≡ put_gate bytes.old.items site n value }
-{
-    let at = 140 * site + 76 + 2 * n;
-    bytes[at] = (value / 256) as u8;
-    bytes[at + 1] = (value % 256) as u8;
-}
-
+// As at a bench, gauges and gates are asked by two calls of one line each, which name the kind.
 impl Works for Image {
     ghost settings = { λ i. image_gates i.bytes.items };
 
@@ -110,21 +115,14 @@ impl Works for Image {
     ghost fewer = { λ w. shown_few w.bytes.items 1 8 76 w.whole w.gates };
 
     fn gates(&self, site: usize) -> usize {
-        if site < self.bytes.len() / 140 {
-            count_at(self.bytes.as_slice(), site, 1)
-        } else {
-            0
-        }
+        self.width(GATES, site)
     }
 
     fn gate(&self, site: usize, number: usize) -> Result<u16, RegisterFault>
         ensures value { result ≡ asked (image_gates self.now.bytes.items) site number }
         ensures spelled { (v : ℕ) → result ≡ Ok v → Spelled self.now.bytes.items site 76 number v }
     {
-        if site >= self.bytes.len() / 140 {
-            return Err(RegisterFault::NotFitted { site, number });
-        }
-        ask(self.bytes.as_slice(), site, 1, 8, 76, number)
+        self.ask(GATES, site, number)
     }
 
     fn set_gate(&mut self, site: usize, number: usize, value: u16) -> Result<(), RegisterFault>
@@ -135,11 +133,8 @@ impl Works for Image {
         ensures foreign { Foreign self.old.bytes.items self.new.bytes.items site number }
         ensures spelled { is_ok result ≡ true → Spelled self.new.bytes.items site 76 number value }
     {
-        if site >= self.bytes.len() / 140 {
-            return Err(RegisterFault::NotFitted { site, number });
-        }
-        ask(self.bytes.as_slice(), site, 1, 8, 76, number)?;
-        put(&mut self.bytes, site, number, value);
+        self.ask(GATES, site, number)?;
+        self.put(site, number, value);
         Ok(())
     }
 }

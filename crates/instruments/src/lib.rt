@@ -4,6 +4,7 @@
 mod banks;
 pub mod bench;
 pub mod benches;
+mod bounded;
 pub mod image;
 pub mod images;
 pub mod laws;

@@ -15,6 +15,7 @@ pub enum NoImage {
     Memory,
 }
 
+// By hand, since what the derive of `thiserror` writes promises nothing.
 impl From<ImageFault> for NoImage {
     ghost from_gives = { λ e r. r ≡ an_image_fault e };
 
@@ -31,13 +32,13 @@ impl From<AllocError> for NoImage {
     }
 }
 
-// The first bad byte of a site.
+// The first bad byte of a site. (Four tests and no search over an array of limits: that would hide which byte has which.)
 fn bad_in_site(bytes: &[u8], site: usize) -> Option<usize>
     requires { (140 * site + 140 ≤ length bytes.now) × (length bytes.now ≤ 2240) }
     ensures { result ≡ site_bad bytes.now site }
 {
     let start = 140 * site;
-    if bytes[start + 0] > 32 {
+    if bytes[start] > 32 {
         Some(start)
     } else if bytes[start + 1] > 32 {
         Some(start + 1)
@@ -50,6 +51,7 @@ fn bad_in_site(bytes: &[u8], site: usize) -> Option<usize>
     }
 }
 
+// A `for`: that the first hit of `find_map` over the sites is `bad_from` was tried, and did not close.
 fn first_bad(bytes: &[u8]) -> Option<usize>
     requires { length bytes.now ≤ 2240 }
     ensures { result ≡ bad_from bytes.now 0 (length bytes.now / 140) }

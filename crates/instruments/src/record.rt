@@ -1,5 +1,5 @@
 // A recorded sheet: what gauges showed, row by row.
-ghost use Rattle.std.specs.Prelude.{◌≤◌, vec_capacity};
+use rows::Rows;
 
 // The number that a gauge of a site showed.
 #[derive(Clone, Copy)]
@@ -12,6 +12,5 @@ pub struct Row {
 // At most 4,096 rows, with room for them all.
 #[derive(Drop)]
 pub struct Recorded {
-    pub(crate) rows: Vec<Row>,
-    ghost room: { 4096 ≤ vec_capacity rows },
+    pub(crate) rows: Rows<Row, 4096>,
 }

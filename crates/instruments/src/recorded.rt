@@ -1,22 +1,23 @@
 // A recorded sheet is gauges only: 16 sites of 32 gauges, of which the first matching row counts; a gauge without a row is silent.
-ghost use Rattle.std.specs.Prelude.{◌≡◌, [], IfOk};
-ghost use Rattle.instruments.specs.Records.{first, recorded as all_recorded, noted, noted_after};
+#![tactic(auto, using(crate::proofs::Firsts::at_rows))]
+
+ghost use Rattle.std.specs.Prelude.{◌≡◌, ◌==◌, ◌&&◌, [], IfOk, find as list_find};
+ghost use Rattle.std.specs.Option.{option_map};
+ghost use Rattle.instruments.specs.Records.{recorded as all_recorded, noted, noted_after};
 ghost use Rattle.instruments.specs.Grid.{recorded_few};
 
 use crate::record::{Recorded, Row};
 use crate::works::Gauges;
 use lines::refusal::RegisterFault;
+use rows::Rows;
 use std::alloc::{AllocError, Global};
 
 fn find(rows: &[Row], site: usize, gauge: usize) -> Option<u16>
-    ensures { result ≡ first rows.now site gauge }
+    ensures { result ≡ option_map (λ r. r.number) (list_find (λ r. r.site == site && r.gauge == gauge) rows.now) }
 {
-    for row in rows {
-        if row.site as usize == site && row.gauge as usize == gauge {
-            return Some(row.number);
-        }
-    }
-    None
+    rows.iter()
+        .find(|row| row.site as usize == site && row.gauge as usize == gauge)
+        .map(|row| row.number)
 }
 
 impl Recorded {
@@ -24,7 +25,7 @@ impl Recorded {
     pub fn new(heap: Global) -> Result<Recorded, AllocError>
         ensures { IfOk result (λ s. s.rows.items ≡ []) }
     {
-        let rows = Vec::with_capacity(heap, 4096)?;
+        let rows = Rows::new(heap)?;
         Ok(Recorded { rows })
     }
 
@@ -33,12 +34,7 @@ impl Recorded {
         ensures value { result ≡ noted self.old.rows.items }
         ensures after { self.new.rows.items ≡ noted_after self.old.rows.items row }
     {
-        if self.rows.len() < 4096 {
-            self.rows.push_reserved(row);
-            true
-        } else {
-            false
-        }
+        self.rows.push(row).is_some()
     }
 }
 
@@ -59,9 +55,6 @@ impl Gauges for Recorded {
         if site >= 16 || number >= 32 {
             return Err(RegisterFault::NotFitted { site, number });
         }
-        match find(self.rows.as_slice(), site, number) {
-            Some(v) => Ok(v),
-            None => Err(RegisterFault::Silent { site, number }),
-        }
+        find(self.rows.as_slice(), site, number).ok_or(RegisterFault::Silent { site, number })
     }
 }

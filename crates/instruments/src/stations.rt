@@ -1,8 +1,9 @@
 // Making a sheet, and reading it.
-ghost use Rattle.std.specs.Prelude.{◌≡◌, ◌<◌, ◌≤◌, [], length};
+ghost use Rattle.std.specs.Prelude.{◌≡◌, ◌≤◌, [], length};
 ghost use Rattle.instruments.specs.Sheets.{stations_of, added, added_after};
 ghost use Rattle.std.specs.List.{slice_get};
 
+use crate::bounded::Bounded;
 use crate::sheet::{Sheet, Station};
 
 impl Sheet {
@@ -11,11 +12,7 @@ impl Sheet {
         ensures { stations_of result ≡ [] }
     {
         Sheet {
-            count: 0,
-            stations: [Station {
-                gauges: 0,
-                gates: 0,
-            }; 16],
+            stations: Bounded::filled(Station::default(), 0),
         }
     }
 
@@ -24,13 +21,7 @@ impl Sheet {
         ensures value { result ≡ added (stations_of self.old) station }
         ensures after { stations_of self.new ≡ added_after (stations_of self.old) station }
     {
-        let at = self.count;
-        if at >= 16 || station.gauges > 32 || station.gates > 32 {
-            return false;
-        }
-        self.stations[at] = station;
-        self.count = at + 1;
-        true
+        station.gauges <= 32 && station.gates <= 32 && self.stations.push(station)
     }
 
     // How many stations there are.
@@ -38,18 +29,20 @@ impl Sheet {
         ensures value { result ≡ length (stations_of self.now) }
         ensures bound { result ≤ 16 }
     {
-        let standing = self.count;
-        standing
+        self.stations.len()
+    }
+
+    // The stations in order.
+    pub fn stations(&self) -> &[Station]
+        ensures { result.now ≡ stations_of self.now }
+    {
+        self.stations.as_slice()
     }
 
     // The station of a site.
     pub fn get(&self, site: usize) -> Option<Station>
         ensures { result ≡ slice_get (stations_of self.now) site }
     {
-        if site < self.count {
-            Some(self.stations[site])
-        } else {
-            None
-        }
+        self.stations().get(site).copied()
     }
 }

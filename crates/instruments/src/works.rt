@@ -4,7 +4,8 @@ ghost use Rattle.instruments.specs.Registers.{Shown, Few, site_row, asked, done,
 
 use lines::refusal::RegisterFault;
 
-// Gauges mean what each of them shows, site by site: a number, or silence. Asking changes nothing.
+// Gauges mean what each of them shows, site by site: a number, or silence. Asking changes nothing. A register is named by two arguments,
+// its site and its number: a struct of both would be built at each call only to be taken apart in it.
 pub trait Gauges {
     ghost readings: { Self → Shown };
 
@@ -23,7 +24,8 @@ pub trait Gauges {
     ghost few: { (g : Self) → Few (readings g) };
 }
 
-// A works adds gates, which are asked as gauges are. A gate that answers can be set, and then it alone has changed.
+// A works adds gates, which are asked as gauges are. A gate that answers can be set, and then it alone has changed. The two kinds are two
+// traits, and not one with the kind as a parameter, since a recorded sheet has gauges alone and a survey asks for no more.
 pub trait Works: Gauges {
     ghost settings: { Self → Shown };
 

@@ -1,5 +1,5 @@
 -- One piece of text after another.
-use Rattle.std.proofs.Common.{◌≡◌, ℕ, ◌+◌, ◌<◌, ◌≤◌, true, false, leb, List, [], ◌++◌, length, take, drop, is_err, IsErrAnd, Ok, Err, Result, sym, refl, ap, ◌∙◌, add-zero, arith, length-append, length-drop, le-leb}
+use Rattle.std.proofs.Common.{◌≡◌, ℕ, ◌+◌, ◌<◌, ◌≤◌, true, false, leb, List, [], ◌∷◌, ◌++◌, length, take, drop, is_err, IsErrAnd, Ok, Err, Result, sym, refl, ap, ◌∙◌, add-zero, arith, length-append, length-drop, le-leb}
 use borrow.Author.Tests.{lt-leb}
 use lib.Seq.{take-append_seam, drop-append-add}
 use Rattle.std.proofs.lemmas.List.{append_assoc, length-take-le, drop-drop, take-append-drop}
@@ -37,41 +37,70 @@ over_over at t u out h =
     ∙ ap (λ n. take at out ++ (t ++ (u ++ drop n out))) e
     ∙ ap (λ (x : List ℕ). take at out ++ x) (sym (append_assoc t u (drop (at + length (t ++ u)) out)))
 
+-- no text changes nothing, wherever it stands
+over_nothing : (at : ℕ) (out : List ℕ) → over at [] out ≡ out
+over_nothing at out = ap (λ n. take at out ++ drop n out) (add-zero at) ∙ take-append-drop at out
+
+length_kept : (at : ℕ) (t out : List ℕ) → (0 < length t → at + length t ≤ length out) → length (over at t out) ≡ length out
+length_kept at [] out h = ap length (over_nothing at out)
+length_kept at (v ∷ vs) out h = length_over at (v ∷ vs) out (h (omega arith))
+
+over_joined : (at : ℕ) (t u out : List ℕ) → (0 < length t → at + length t ≤ length out) → over (at + length t) u (over at t out) ≡ over at (t ++ u) out
+over_joined at [] u out h = ap (λ (c : List ℕ). over (at + 0) u c) (over_nothing at out) ∙ ap (λ n. over n u out) (add-zero at)
+over_joined at (v ∷ vs) u out h = over_over at (v ∷ vs) u out (h (omega arith))
+
+-- room for two pieces, where each that has a byte has room
+join_room : {p q r : Pen} {t u : List ℕ} → Took p t q → Took q u r → 0 < length (t ++ u) → p.at + length (t ++ u) ≤ p.limit
+join_room {t = t} {u = []} x y h = grind (arith, length-append t [], x.room)
+join_room {t = t} {u = v ∷ vs} x y h = omega (arith, length-append t (v ∷ vs), x.place, x.limit, y.room (omega arith))
+
 -- a piece after another is their join
-pub took_then : {p q r : Pen} {out a b t u : List ℕ} → Took p out t q a → Took q a u r b → Took p out (t ++ u) r b
-took_then {p} {q} {r} {out} {a} {b} {t} {u} x y =
+pub took_then : {p q r : Pen} {t u : List ℕ} → Took p t q → Took q u r → Took p (t ++ u) r
+took_then {p} {q} {r} {t} {u} x y =
     let l : length (t ++ u) ≡ length t + length u = length-append t u in
     record {
-      room = omega (arith, x.place, x.limit, y.room);
+      same = y.same ∙ x.same;
+      room = join_room x y;
       place = omega (arith, x.place, y.place);
       limit = y.limit ∙ x.limit;
       wrote = λ h.
-          let k : p.at + length t ≤ length out = omega (arith, x.room) in
-          let w : a ≡ over p.at t out = x.wrote h in
-          let m : q.limit ≤ length a = omega (arith, ap length w, length_over p.at t out k, x.limit) in
-          y.wrote m ∙ ap (λ n. over n u a) x.place ∙ ap (λ (c : List ℕ). over (p.at + length t) u c) w ∙ over_over p.at t u out k;
+          let k : 0 < length t → p.at + length t ≤ length p.out.now = λ some. omega (arith, x.room some) in
+          let w : q.out.now ≡ over p.at t p.out.now = x.wrote h in
+          let m : q.limit ≤ length q.out.now = omega (arith, ap length w, length_kept p.at t p.out.now k, x.limit) in
+          y.wrote m ∙ ap (λ n. over n u q.out.now) x.place ∙ ap (λ (c : List ℕ). over (p.at + length t) u c) w ∙ over_joined p.at t u p.out.now k;
     }
 
 -- no text yet
-pub begins : (p : Pen) (out : List ℕ) → p.at ≤ p.limit → Took p out [] p out
-begins p out h =
-    record { room = omega arith; place = omega arith; limit = refl; wrote = λ _. sym (ap (λ n. take p.at out ++ drop n out) (add-zero p.at) ∙ take-append-drop p.at out) }
+pub begins : (p : Pen) → Took p [] p
+begins p =
+    record {
+      same = refl;
+      room = λ h. absurd (omega arith);
+      place = omega arith;
+      limit = refl;
+      wrote = λ _. sym (over_nothing p.at p.out.now);
+    }
 
-pub then : {p q r : Pen} {out a b t u : List ℕ} {e : Result Unit Short} → Took p out t q a → Writes q a u e r b → Writes p out (t ++ u) e r b
+pub then : {p q r : Pen} {t u : List ℕ} {e : Result Unit Short} → Took p t q → Writes q u e r → Writes p (t ++ u) e r
 then {e = Ok v} x y = record { ended = took_then x y.ended }
-then {p} {q} {r} {out} {a} {b} {t} {u} {e = Err v} x y = record { ended = omega (arith, length-append t u, x.place, x.limit, y.ended) }
+then {p} {q} {r} {t} {u} {e = Err v} x y =
+    record { ended = (y.ended.0 ∙ x.same, omega (arith, length-append t u, x.place, x.limit, y.ended.1)) }
 
 -- a piece that does not fit leaves no room for what begins with it
-pub stops : {p q : Pen} {out a : List ℕ} {e : Result Unit Short} (t u : List ℕ) → is_err e ≡ true → p.limit < p.at + length t → Writes p out (t ++ u) e q a
+pub stops : {p q : Pen} {e : Result Unit Short} (t u : List ℕ) → is_err e ≡ true → (q.out.ghost_name ≡ p.out.ghost_name) × (p.limit < p.at + length t) → Writes p (t ++ u) e q
 stops {e = Ok v} t u x y = absurd (grind arith)
-stops {p} {q} {out} {a} {e = Err v} t u x y = record { ended = omega (arith, length-append t u, y) }
+stops {p} {q} {e = Err v} t u x y = record { ended = (y.0, omega (arith, length-append t u, y.1)) }
 
-pub stops_whole : {p q : Pen} {out a t : List ℕ} {e : Result Unit Short} → is_err e ≡ true → p.limit < p.at + length t → Writes p out t e q a
+pub stops_whole : {p q : Pen} {t : List ℕ} {e : Result Unit Short} → is_err e ≡ true → (q.out.ghost_name ≡ p.out.ghost_name) × (p.limit < p.at + length t) → Writes p t e q
 stops_whole {e = Ok v} x y = absurd (grind arith)
 stops_whole {e = Err v} x y = record { ended = y }
 
+reaches : (text : List ℕ) {a l n : ℕ} → (0 < length text → a + length text ≤ l) → a ≡ 0 → l ≡ n → length text ≤ n
+reaches [] h e m = omega arith
+reaches (v ∷ vs) h e m = omega (arith, h (omega arith))
+
 -- a text that does not fit is refused, and the buffer stays as it is
-module _ (text out : List ℕ) (p : Pen) (a : p.at ≡ 0) (l : p.limit ≡ length out) where
+module _ (text : List ℕ) (p : Pen) (out : List ℕ) (o : p.out.now ≡ out) (a : p.at ≡ 0) (l : p.limit ≡ length out) where
   passes : p.limit < p.at + length text → leb (length text) (length out) ≡ false
   passes h = lt-leb (length text) (length out) (omega arith)
 
@@ -82,12 +111,14 @@ module _ (text out : List ℕ) (p : Pen) (a : p.at ≡ 0) (l : p.limit ≡ lengt
   keeps h = sym (rw (passes h))
 
   -- one that fits is written whole, and the bytes behind it stay
-  module _ {q : Pen} {after : List ℕ} (t : Took p out text q after) where
+  module _ {q : Pen} (t : Took p text q) where
     fits : leb (length text) (length out) ≡ true
-    fits = le-leb (length text) (length out) (omega (arith, t.room))
+    fits = le-leb (length text) (length out) (reaches text t.room a l)
 
     pub fills : Ok q.at ≡ written text out
     fills = let e : q.at ≡ length text = omega (arith, t.place) in ap (λ n. Ok n) e ∙ sym (rw fits)
 
-    pub fills_after : after ≡ written_after text out
-    fills_after = let z : 0 + length text ≡ length text = omega arith in t.wrote (omega arith) ∙ ap (λ n. over n text out) a ∙ ap (λ n. text ++ drop n out) z ∙ sym (rw fits)
+    pub fills_after : q.out.now ≡ written_after text out
+    fills_after =
+        let z : 0 + length text ≡ length text = omega arith in
+        t.wrote (omega (arith, ap length o)) ∙ ap (λ n. over n text p.out.now) a ∙ ap (λ (x : List ℕ). over 0 text x) o ∙ ap (λ n. text ++ drop n out) z ∙ sym (rw fits)

@@ -17,17 +17,19 @@ written_after text out = cond (nat_le (length text) (length out)) (text ++ drop 
 abbrev pub over : ℕ → List ℕ → List ℕ → List ℕ
 over at text out = take at out ++ (text ++ drop (at + length text) out)
 
--- a text was taken: the pen stands behind it, and a buffer that reaches to the limit has the text
-pub record Took (p : Pen) (out text : List ℕ) (q : Pen) (after : List ℕ) : Type 0 where
-  pub room : p.at + length text ≤ p.limit
+-- A text was taken: the pen stands behind it, over the same buffer, and a buffer that reaches to the limit has the text. A text with no
+-- byte is taken anywhere.
+pub record Took (p : Pen) (text : List ℕ) (q : Pen) : Type 0 where
+  pub same : q.out.ghost_name ≡ p.out.ghost_name
+  pub room : 0 < length text → p.at + length text ≤ p.limit
   pub place : q.at ≡ p.at + length text
   pub limit : q.limit ≡ p.limit
-  pub wrote : p.limit ≤ length out → after ≡ over p.at text out
+  pub wrote : p.limit ≤ length p.out.now → q.out.now ≡ over p.at text p.out.now
 
-abbrev Ended : Pen → List ℕ → List ℕ → Result Unit Short → Pen → List ℕ → Type 0
-Ended p out text (Ok u) q after = Took p out text q after
-Ended p out text (Err e) q after = p.limit < p.at + length text
+abbrev Ended : Pen → List ℕ → Result Unit Short → Pen → Type 0
+Ended p text (Ok u) q = Took p text q
+Ended p text (Err e) q = (q.out.ghost_name ≡ p.out.ghost_name) × (p.limit < p.at + length text)
 
 -- a piece of text is taken, or it would pass the limit
-pub record Writes (p : Pen) (out text : List ℕ) (r : Result Unit Short) (q : Pen) (after : List ℕ) : Type 0 where
-  pub ended : Ended p out text r q after
+pub record Writes (p : Pen) (text : List ℕ) (r : Result Unit Short) (q : Pen) : Type 0 where
+  pub ended : Ended p text r q

@@ -1,10 +1,12 @@
-// What a reader sees of a refusal.
+// What a reader sees of a refusal. Only here does a refusal have a number, which the format of its line asks for: the code knows it by its
+// enum. `code` is a method of each enum and not of a trait, since no code is generic over the kind of a fault.
 ghost use Rattle.std.specs.Prelude.{◌≡◌};
 ghost use Rattle.lines.specs.Refusals.{text_code, check_code, table_kind, instrument_kind, site_named, number_named, run_code, register_code, image_code, code, refused_line};
-ghost use Rattle.lines.specs.Writing.{Writes, written, written_after};
+ghost use Rattle.lines.specs.Writing.{written, written_after};
 
 use crate::pen::Pen;
 use crate::refusal::*;
+use crate::writing::Printed;
 
 impl TextFault {
     // The refusal's number and the first value that it names.
@@ -38,12 +40,12 @@ impl CheckFault {
     }
 }
 
-impl Table {
+impl From<Table> for u16 {
+    ghost from_gives = { λ t n. n ≡ table_kind t };
+
     // The kinds of tables have numbers.
-    pub fn kind(self) -> u16
-        ensures { result ≡ table_kind self }
-    {
-        match self {
+    fn from(table: Table) -> u16 {
+        match table {
             Table::Frames => 1,
             Table::Bindings => 2,
             Table::Pairs => 3,
@@ -53,12 +55,12 @@ impl Table {
     }
 }
 
-impl Instrument {
+impl From<Instrument> for u16 {
+    ghost from_gives = { λ i n. n ≡ instrument_kind i };
+
     // A gauge is 0, a gate is 1.
-    pub fn kind(self) -> u16
-        ensures { result ≡ instrument_kind self }
-    {
-        match self {
+    fn from(instrument: Instrument) -> u16 {
+        match instrument {
             Instrument::Gauge => 0,
             Instrument::Gate => 1,
         }
@@ -73,19 +75,19 @@ impl RunFault {
     {
         match self.fault {
             StepFault::Register(register) => (31, register.fault.site()),
-            StepFault::Full(table) => (32, table.kind() as usize),
+            StepFault::Full(table) => (32, u16::from(table) as usize),
         }
     }
 }
 
+// Both faults carry the register, each in fields of its own: a fault with a register and a reason would be matched on twice.
 impl RegisterFault {
     // The site of the register.
     pub fn site(self) -> usize
         ensures { result ≡ site_named self }
     {
         match self {
-            RegisterFault::NotFitted { site, number: _ } => site,
-            RegisterFault::Silent { site, number: _ } => site,
+            RegisterFault::NotFitted { site, .. } | RegisterFault::Silent { site, .. } => site,
         }
     }
 
@@ -94,8 +96,8 @@ impl RegisterFault {
         ensures { result ≡ number_named self }
     {
         match self {
-            RegisterFault::NotFitted { site: _, number } => number,
-            RegisterFault::Silent { site: _, number } => number,
+            RegisterFault::NotFitted { number, .. } | RegisterFault::Silent { number, .. } =>
+                number,
         }
     }
 
@@ -105,8 +107,8 @@ impl RegisterFault {
         ensures first { result.1 ≡ (register_code self).first }
     {
         match self {
-            RegisterFault::NotFitted { site, number: _ } => (40, site),
-            RegisterFault::Silent { site, number: _ } => (41, site),
+            RegisterFault::NotFitted { site, .. } => (40, site),
+            RegisterFault::Silent { site, .. } => (41, site),
         }
     }
 }
@@ -143,25 +145,26 @@ impl Refusal {
         }
     }
 
-    fn put_refused(self, pen: &mut Pen, out: &mut [u8]) -> Result<(), Short>
-        ensures { Writes pen.old out.old (refused_line self) result pen.new out.new }
-    {
-        let (number, first) = self.code();
-        pen.numbered(out, b"(refused ", number as usize)?;
-        pen.numbered(out, b" ", first)?;
-        pen.word(out, b")\n")
-    }
-
     // Writes the line that names the refusal by its number and first value.
     pub fn write_refused(self, out: &mut [u8]) -> Result<usize, Refusal>
         ensures value { result ≡ written (refused_line self) out.old }
         ensures after { out.new ≡ written_after (refused_line self) out.old }
     {
-        let mut nothing = [0u8; 0];
-        let mut measure = Pen::new(out.len());
-        self.put_refused(&mut measure, &mut nothing)?;
-        let mut pen = Pen::new(out.len());
-        self.put_refused(&mut pen, out)?;
-        Ok(pen.at)
+        Refused(self).write(out)
+    }
+}
+
+// A refusal by its number and first value alone.
+#[derive(Clone, Copy)]
+struct Refused(Refusal);
+
+impl Printed for Refused {
+    ghost text = { λ r. refused_line r.0 };
+
+    fn put(&self, pen: &mut Pen<'_>) -> Result<(), Short> {
+        let (number, first) = self.0.code();
+        pen.numbered(b"(refused ", number as usize)?;
+        pen.numbered(b" ", first)?;
+        pen.word(b")\n")
     }
 }

@@ -1,5 +1,5 @@
 // Refusals with their numbers, and the writing of lines into a caller's buffer.
-#![tactic(auto)]
+#![tactic(auto, using(crate::proofs::Pieces::then))]
 
 pub mod codes;
 pub mod pen;

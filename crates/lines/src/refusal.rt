@@ -93,6 +93,7 @@ pub enum Refusal {
     Image(ImageFault),
 }
 
+// By hand, since what the derive of `thiserror` writes promises nothing, and `?` has to say which fault it turned.
 impl From<TextFault> for Refusal {
     ghost from_gives = { λ e r. r ≡ a_text e };
 

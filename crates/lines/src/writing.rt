@@ -1,64 +1,75 @@
-// The pieces of a text: words and numbers.
-ghost use Rattle.std.specs.Prelude.{◌≡◌, ◌+◌, ◌<◌, ◌≤◌, [], ◌∷◌, ◌++◌, length, decimal};
-ghost use Rattle.lines.specs.Writing.{Writes, over as text_over};
+// The pieces of a text: words and numbers. And what has a text, which is written whole or not at all.
+ghost use Rattle.std.specs.Prelude.{◌≡◌, ◌+◌, ◌<◌, ◌≤◌, List, ℕ, ◌++◌, length, decimal, is_err, true};
+ghost use Rattle.lines.specs.Writing.{Writes, written, written_after};
 
 use crate::pen::Pen;
-use crate::refusal::Short;
+use crate::refusal::{Refusal, Short};
+use itoa::Buffer;
 
-// Writes bytes over those at a place.
-fn write_at(out: &mut [u8], at: usize, bytes: &[u8])
-    requires { at + length bytes.now ≤ length out.old }
-    ensures { out.new ≡ text_over at bytes.now out.old }
-{
-    let end = at + bytes.len();
-    let part = &mut out[at..end];
-    part.copy_from_slice(bytes);
-}
-
-impl Pen {
+impl<'a> Pen<'a> {
     // A pen at the start of a text that has to end at the limit.
-    pub fn new(limit: usize) -> Pen
+    pub fn new(out: &'a mut [u8], limit: usize) -> Pen<'a>
+        ensures same { result.out.ghost_name ≡ out.entry.ghost_name }
+        ensures out { result.out.now ≡ out.old }
         ensures at { result.at ≡ 0 }
         ensures limit { result.limit ≡ limit }
     {
-        Pen { at: 0, limit }
+        Pen { out, at: 0, limit }
     }
 
     // Takes a word. One that would pass the limit changes nothing; where the buffer does not reach, only the pen moves.
-    pub fn word(&mut self, out: &mut [u8], word: &[u8]) -> Result<(), Short>
-        ensures writes { Writes self.old out.old word.now result self.new out.new }
-        ensures short { self.old.limit < self.old.at + length word.now → self.new ≡ self.old }
-        ensures kept { length out.old < self.old.at + length word.now → out.new ≡ out.old }
-        ensures same { self.old.limit < self.old.at + length word.now → out.new ≡ out.old }
+    pub fn word(&mut self, word: &[u8]) -> Result<(), Short>
+        ensures writes { Writes self.old word.now result self.new }
+        ensures short { self.old.limit < self.old.at + length word.now → (is_err result ≡ true) × (self.new ≡ self.old) }
+        ensures kept { length self.old.out.now < self.old.at + length word.now → self.new.out.now ≡ self.old.out.now }
     {
         if self.at > self.limit || self.limit - self.at < word.len() {
             return Err(Short);
         }
         let end = self.at + word.len();
-        if end <= out.len() {
-            write_at(out, self.at, word);
+        if end <= self.out.len() {
+            self.out[self.at..end].copy_from_slice(word);
         }
         self.at = end;
         Ok(())
     }
 
     // Takes a number in decimal.
-    pub fn number(&mut self, out: &mut [u8], n: usize) -> Result<(), Short>
-        ensures { Writes self.old out.old (decimal n) result self.new out.new }
+    pub fn number(&mut self, n: usize) -> Result<(), Short>
+        ensures { Writes self.old (decimal n) result self.new }
     {
-        let last = b'0' + (n % 10) as u8;
-        if n < 10 {
-            return self.word(out, &[last]);
-        }
-        self.number(out, n / 10)?;
-        self.word(out, &[last])
+        let mut digits = Buffer::new();
+        self.word(digits.format(n).as_bytes())
     }
 
     // Takes a word and a number.
-    pub fn numbered(&mut self, out: &mut [u8], word: &[u8], n: usize) -> Result<(), Short>
-        ensures { Writes self.old out.old (word.now ++ decimal n) result self.new out.new }
+    pub fn numbered(&mut self, word: &[u8], n: usize) -> Result<(), Short>
+        ensures { Writes self.old (word.now ++ decimal n) result self.new }
     {
-        self.word(out, word)?;
-        self.number(out, n)
+        self.word(word)?;
+        self.number(n)
+    }
+}
+
+// What has a text. A trait of its own and not `Display`, which promises nothing where it answers an error: no call over it could be held
+// to write whatever fits.
+pub trait Printed {
+    ghost text: { Self → List ℕ };
+
+    // Puts the text behind what the pen has written.
+    fn put(&self, pen: &mut Pen<'_>) -> Result<(), Short>
+        ensures { Writes pen.old (text self.now) result pen.new };
+
+    // Writes the text into a buffer, and answers its length. A buffer that is too short stays as it is.
+    final fn write(&self, out: &mut [u8]) -> Result<usize, Refusal>
+        ensures value { result ≡ written (text self.now) out.old }
+        ensures after { out.new ≡ written_after (text self.now) out.old }
+    {
+        let limit = out.len();
+        let mut nothing = [0u8; 0];
+        self.put(&mut Pen::new(&mut nothing, limit))?;
+        let mut pen = Pen::new(out, limit);
+        self.put(&mut pen)?;
+        Ok(pen.at)
     }
 }

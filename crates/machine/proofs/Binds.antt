@@ -1,5 +1,5 @@
 -- The rules that add cells.
-use Rattle.std.proofs.Common.{◌≡◌, ℕ, suc, ◌+◌, ◌<◌, ◌≤◌, true, List, [], ◌∷◌, ◌++◌, map, length, take, vec_items, sym, refl, ap, ◌∙◌, subst, arith}
+use Rattle.std.proofs.Common.{◌≡◌, ℕ, suc, ◌+◌, ◌<◌, ◌≤◌, true, List, [], ◌∷◌, ◌++◌, map, length, take, sym, refl, ap, ◌∙◌, subst, arith}
 use Rattle.calculus.specs.Machine
 use Rattle.machine.specs.Meaning.{environment_of, value_of, bound_of, meanings, continuation_of, chains, phase_of, published_of, kept_of, cells_of, sites_of, places_of, state_of}
 use Rattle.machine.specs.Sound.{pair_at, EnvironmentIn, ValueIn, BoundIn, ContinuationIn, StateIn}
@@ -19,13 +19,14 @@ use Rattle.machine.specs.declared.parts.Phase.TheVariants as Now
 use Rattle.machine.specs.declared.parts.Store.{Store}
 use Rattle.machine.specs.declared.parts.State.{State}
 use Rattle.machine.proofs.Cells.{Grown, grown}
+use Rattle.machine.proofs.Sound.{sound, Makes}
 
 -- what there was means the same
 pub record Alike (s t : Store) : Type 0 where
-  pub frames_same : vec_items t.frames ≡ vec_items s.frames
-  pub chains_same : chains (meanings (vec_items t.cells)) (vec_items t.frames) ≡ chains (meanings (vec_items s.cells)) (vec_items s.frames)
-  pub published_same : map (published_of (meanings (vec_items t.cells))) t.rows ≡ map (published_of (meanings (vec_items s.cells))) s.rows
-  pub kept_same : map (kept_of (chains (meanings (vec_items t.cells)) (vec_items t.frames))) t.rows ≡ map (kept_of (chains (meanings (vec_items s.cells)) (vec_items s.frames))) s.rows
+  pub frames_same : t.frames.items ≡ s.frames.items
+  pub chains_same : chains (meanings t.cells.items) t.frames.items ≡ chains (meanings s.cells.items) s.frames.items
+  pub published_same : map (published_of (meanings t.cells.items)) t.rows ≡ map (published_of (meanings s.cells.items)) s.rows
+  pub kept_same : map (kept_of (chains (meanings t.cells.items) t.frames.items)) t.rows ≡ map (kept_of (chains (meanings s.cells.items) s.frames.items)) s.rows
 
 pub grown_alike : (s t : Store) (c : Cell) (b p : ℕ) → Grown s t c b p → Alike s t
 grown_alike s t c b p G = record {
@@ -44,75 +45,72 @@ alike_on s t u A B = record {
 }
 
 -- the state over such tables
-alike_state : (s : State) (t : Store) (k : Continuation) (p : Phase) → Alike s.store t → state_of (record { stations = s.stations; site = s.site; continuation = k; phase = p; store = t }) ≡ Machine.state (sites_of s) s.site (over s k) (phase_of (meanings (vec_items t.cells)) p) (record { frames = length (vec_items s.store.frames); bindings = t.bindings; pairs = t.pairs })
-alike_state s t k p A = λ i. Machine.state (record { published = take s.stations (A.published_same i); kept = take s.stations (A.kept_same i) }) s.site (continuation_of (A.chains_same i) k) (phase_of (meanings (vec_items t.cells)) p) (record { frames = length (A.frames_same i); bindings = t.bindings; pairs = t.pairs })
+alike_state : (s : State) (t : Store) (k : Continuation) (p : Phase) (h : StateIn s.stations s.site k p t) → Alike s.store t → state_of (record { stations = s.stations; site = s.site; continuation = k; phase = p; store = t; sound = ∣ h ∣₁ }) ≡ Machine.state (sites_of s) s.site (over s k) (phase_of (meanings t.cells.items) p) (record { frames = length s.store.frames.items; bindings = t.bindings; pairs = t.pairs })
+alike_state s t k p h A = λ i. Machine.state (record { published = take s.stations (A.published_same i); kept = take s.stations (A.kept_same i) }) s.site (continuation_of (A.chains_same i) k) (phase_of (meanings t.cells.items) p) (record { frames = length (A.frames_same i); bindings = t.bindings; pairs = t.pairs })
 
-continuation_on : (s t : Store) (k : Continuation) → Alike s t → ContinuationIn (length (vec_items s.frames)) k → ContinuationIn (length (vec_items t.frames)) k
+continuation_on : (s t : Store) (k : Continuation) → Alike s t → ContinuationIn (length s.frames.items) k → ContinuationIn (length t.frames.items) k
 continuation_on s t k A h = subst (λ fs. ContinuationIn (length fs) k) (sym A.frames_same) h
 
-module _ (s : State) (next : Continuation) (part : ℕ) (h : StateIn s) (next-in : ContinuationIn (length (vec_items s.store.frames)) next) where
-  abbrev evaluating : Environment → Store → State
-  evaluating e t = record { stations = s.stations; site = s.site; continuation = next; phase = Now.Eval part e; store = t }
-
-  pub bind_goes : (b : Bound) (rest : Environment) (t : Store) (e : Environment) → BoundIn (vec_items s.store.cells) (length (vec_items s.store.cells)) b → EnvironmentIn (length (vec_items s.store.cells)) rest → s.store.bindings + 1 ≤ 4096 → e ≡ Env.Cell (length (vec_items s.store.cells)) → CellPushed s.store t (Holds.Binding b rest) (s.store.bindings + 1) s.store.pairs → StateIn (evaluating e t) × (state_of (evaluating e t) ≡ Machine.state (sites_of s) s.site (over s next) (Machine.eval part (bound_of (cells_of s) b (scope s rest))) (Machine.binding_more (places_of s)))
+module _ (s : State) (next : Continuation) (part : ℕ) (next-in : ContinuationIn (length s.store.frames.items) next) where
+  pub bind_goes : (b : Bound) (rest : Environment) (t : Store) (e : Environment) → BoundIn s.store.cells.items (length s.store.cells.items) b → EnvironmentIn (length s.store.cells.items) rest → s.store.bindings + 1 ≤ 4096 → e ≡ Env.Cell (length s.store.cells.items) → CellPushed s.store t (Holds.Binding b rest) (s.store.bindings + 1) s.store.pairs → Makes s.stations s.site next (Now.Eval part e) t (Machine.state (sites_of s) s.site (over s next) (Machine.eval part (bound_of (cells_of s) b (scope s rest))) (Machine.binding_more (places_of s)))
   bind_goes b rest t e b-in rest_in few is q =
-      let T = h.store_in in
+      let T = (sound s).store_in in
       let G = grown s.store T (Holds.Binding b rest) (b-in, rest_in) (s.store.bindings + 1) s.store.pairs (omega arith) few T.pairs_few t q in
       let A = grown_alike _ _ _ _ _ G in
       let long = G.cells_long in
       let one : t.bindings ≡ suc s.store.bindings = (let x = G.bindings_are in omega arith) in
-      let env : environment_of (meanings (vec_items t.cells)) e ≡ bound_of (cells_of s) b (scope s rest) =
-      ap (environment_of (meanings (vec_items t.cells))) is ∙ ap (λ m. m.environment) G.here in
-      let at : EnvironmentIn (length (vec_items t.cells)) e = subst (EnvironmentIn (length (vec_items t.cells))) (sym is) (let x : length (vec_items s.store.cells) < length (vec_items t.cells) = omega arith in x) in (
-        record { store_in = G.store_in; stations_few = h.stations_few; site_in = h.site_in; phase_in = at; continuation_in = continuation_on s.store t next A next-in },
-        alike_state s t next (Now.Eval part e) A ∙ (λ i. Machine.state (sites_of s) s.site (over s next) (Machine.eval part (env i)) (record { frames = length (vec_items s.store.frames); bindings = one i; pairs = G.pairs_are i })),
+      let env : environment_of (meanings t.cells.items) e ≡ bound_of (cells_of s) b (scope s rest) =
+      ap (environment_of (meanings t.cells.items)) is ∙ ap (λ m. m.environment) G.here in
+      let at : EnvironmentIn (length t.cells.items) e = subst (EnvironmentIn (length t.cells.items)) (sym is) (let x : length s.store.cells.items < length t.cells.items = omega arith in x) in
+      let h : StateIn s.stations s.site next (Now.Eval part e) t = record { store_in = G.store_in; stations_few = (sound s).stations_few; site_in = (sound s).site_in; work_in = (at, continuation_on s.store t next A next-in) } in (
+        h,
+        alike_state s t next (Now.Eval part e) h A ∙ (λ i. Machine.state (sites_of s) s.site (over s next) (Machine.eval part (env i)) (record { frames = length s.store.frames.items; bindings = one i; pairs = G.pairs_are i })),
       )
 
   -- after the first of two bindings
-  pub world_grown : (w : ℕ) (rest : Environment) (t : Store) → EnvironmentIn (length (vec_items s.store.cells)) rest → s.store.bindings + 1 ≤ 4096 → CellPushed s.store t (Holds.Binding (Bind.World w) rest) (s.store.bindings + 1) s.store.pairs → Grown s.store t (Holds.Binding (Bind.World w) rest) (s.store.bindings + 1) s.store.pairs
-  world_grown w rest t rest_in few q = grown s.store h.store_in (Holds.Binding (Bind.World w) rest) (tt, rest_in) (s.store.bindings + 1) s.store.pairs (omega arith) few h.store_in.pairs_few t q
+  pub world_grown : (w : ℕ) (rest : Environment) (t : Store) → EnvironmentIn (length s.store.cells.items) rest → s.store.bindings + 1 ≤ 4096 → CellPushed s.store t (Holds.Binding (Bind.World w) rest) (s.store.bindings + 1) s.store.pairs → Grown s.store t (Holds.Binding (Bind.World w) rest) (s.store.bindings + 1) s.store.pairs
+  world_grown w rest t rest_in few q = grown s.store (sound s).store_in (Holds.Binding (Bind.World w) rest) (tt, rest_in) (s.store.bindings + 1) s.store.pairs (omega arith) few (sound s).store_in.pairs_few t q
 
-  pub open_goes : (w l : ℕ) (rest : Environment) (t u : Store) (d e : Environment) → EnvironmentIn (length (vec_items s.store.cells)) rest → s.store.bindings + 2 ≤ 4096 → d ≡ Env.Cell (length (vec_items s.store.cells)) → CellPushed s.store t (Holds.Binding (Bind.World w) rest) (s.store.bindings + 1) s.store.pairs → e ≡ Env.Cell (length (vec_items t.cells)) → CellPushed t u (Holds.Binding (Bind.Label w l) d) (t.bindings + 1) t.pairs → StateIn (evaluating e u) × (state_of (evaluating e u) ≡ Machine.state (sites_of s) s.site (over s next) (Machine.eval part (Machine.label w l (Machine.world w (scope s rest)))) (Machine.binding_more (Machine.binding_more (places_of s))))
+  pub open_goes : (w l : ℕ) (rest : Environment) (t u : Store) (d e : Environment) → EnvironmentIn (length s.store.cells.items) rest → s.store.bindings + 2 ≤ 4096 → d ≡ Env.Cell (length s.store.cells.items) → CellPushed s.store t (Holds.Binding (Bind.World w) rest) (s.store.bindings + 1) s.store.pairs → e ≡ Env.Cell (length t.cells.items) → CellPushed t u (Holds.Binding (Bind.Label w l) d) (t.bindings + 1) t.pairs → Makes s.stations s.site next (Now.Eval part e) u (Machine.state (sites_of s) s.site (over s next) (Machine.eval part (Machine.label w l (Machine.world w (scope s rest)))) (Machine.binding_more (Machine.binding_more (places_of s))))
   open_goes w l rest t u d e rest_in few d-is q e-is p =
       let G = world_grown w rest t rest_in (omega arith) q in
       let T = G.store_in in
       let long = G.cells_long in
       let bs = G.bindings_are in
-      let d-in : EnvironmentIn (length (vec_items t.cells)) d = subst (EnvironmentIn (length (vec_items t.cells))) (sym d-is) (let x : length (vec_items s.store.cells) < length (vec_items t.cells) = omega arith in x) in
+      let d-in : EnvironmentIn (length t.cells.items) d = subst (EnvironmentIn (length t.cells.items)) (sym d-is) (let x : length s.store.cells.items < length t.cells.items = omega arith in x) in
       let F = grown t T (Holds.Binding (Bind.Label w l) d) (tt, d-in) (t.bindings + 1) t.pairs (omega arith) (omega arith) T.pairs_few u p in
       let A = alike_on s.store t u (grown_alike _ _ _ _ _ G) (grown_alike _ _ _ _ _ F) in
       let longer = F.cells_long in
       let two : u.bindings ≡ suc (suc s.store.bindings) = (let x = F.bindings_are in omega arith) in
-      let env : environment_of (meanings (vec_items u.cells)) e ≡ Machine.label w l (Machine.world w (scope s rest)) =
-      ap (environment_of (meanings (vec_items u.cells))) e-is
+      let env : environment_of (meanings u.cells.items) e ≡ Machine.label w l (Machine.world w (scope s rest)) =
+      ap (environment_of (meanings u.cells.items)) e-is
       ∙ ap (λ m. m.environment) F.here
-      ∙ ap (λ x. Machine.label w l (environment_of (meanings (vec_items t.cells)) x)) d-is
+      ∙ ap (λ x. Machine.label w l (environment_of (meanings t.cells.items) x)) d-is
       ∙ ap (λ m. Machine.label w l m.environment) G.here in
-      let at : EnvironmentIn (length (vec_items u.cells)) e = subst (EnvironmentIn (length (vec_items u.cells))) (sym e-is) (let x : length (vec_items t.cells) < length (vec_items u.cells) = omega arith in x) in (
-        record { store_in = F.store_in; stations_few = h.stations_few; site_in = h.site_in; phase_in = at; continuation_in = continuation_on s.store u next A next-in },
-        alike_state s u next (Now.Eval part e) A ∙ (λ i. Machine.state (sites_of s) s.site (over s next) (Machine.eval part (env i)) (record { frames = length (vec_items s.store.frames); bindings = two i; pairs = (F.pairs_are ∙ G.pairs_are) i })),
+      let at : EnvironmentIn (length u.cells.items) e = subst (EnvironmentIn (length u.cells.items)) (sym e-is) (let x : length t.cells.items < length u.cells.items = omega arith in x) in
+      let h : StateIn s.stations s.site next (Now.Eval part e) u = record { store_in = F.store_in; stations_few = (sound s).stations_few; site_in = (sound s).site_in; work_in = (at, continuation_on s.store u next A next-in) } in (
+        h,
+        alike_state s u next (Now.Eval part e) h A ∙ (λ i. Machine.state (sites_of s) s.site (over s next) (Machine.eval part (env i)) (record { frames = length s.store.frames.items; bindings = two i; pairs = (F.pairs_are ∙ G.pairs_are) i })),
       )
 
 pair_here : (cs : List Cell) (a b : Value) → pair_at (cs ++ Holds.Pair a b ∷ []) (length cs) ≡ true
 pair_here [] a b = refl
 pair_here (c ∷ cs) a b = pair_here cs a b
 
-module _ (s : State) (next : Continuation) (h : StateIn s) (next-in : ContinuationIn (length (vec_items s.store.frames)) next) where
-  abbrev with_value : Value → Store → State
-  with_value v t = record { stations = s.stations; site = s.site; continuation = next; phase = Now.Back v; store = t }
-
-  pub join_goes : (a b : Value) (t : Store) (v : Value) → ValueIn (vec_items s.store.cells) (length (vec_items s.store.cells)) a → ValueIn (vec_items s.store.cells) (length (vec_items s.store.cells)) b → s.store.pairs + 1 ≤ 2048 → v ≡ Val.Pair (length (vec_items s.store.cells)) → CellPushed s.store t (Holds.Pair a b) s.store.bindings (s.store.pairs + 1) → StateIn (with_value v t) × (state_of (with_value v t) ≡ Machine.state (sites_of s) s.site (over s next) (Machine.back (Machine.pair (held s a) (held s b))) (Machine.pair_more (places_of s)))
+module _ (s : State) (next : Continuation) (next-in : ContinuationIn (length s.store.frames.items) next) where
+  pub join_goes : (a b : Value) (t : Store) (v : Value) → ValueIn s.store.cells.items (length s.store.cells.items) a → ValueIn s.store.cells.items (length s.store.cells.items) b → s.store.pairs + 1 ≤ 2048 → v ≡ Val.Pair (length s.store.cells.items) → CellPushed s.store t (Holds.Pair a b) s.store.bindings (s.store.pairs + 1) → Makes s.stations s.site next (Now.Back v) t (Machine.state (sites_of s) s.site (over s next) (Machine.back (Machine.pair (held s a) (held s b))) (Machine.pair_more (places_of s)))
   join_goes a b t v a_in b-in few is q =
-      let T = h.store_in in
-      let cs = vec_items s.store.cells in
+      let T = (sound s).store_in in
+      let cs = s.store.cells.items in
       let G = grown s.store T (Holds.Pair a b) (a_in, b-in) s.store.bindings (s.store.pairs + 1) (omega arith) T.bindings_few few t q in
       let A = grown_alike _ _ _ _ _ G in
       let long = G.cells_long in
       let one : t.pairs ≡ suc s.store.pairs = (let x = G.pairs_are in omega arith) in
-      let val : value_of (meanings (vec_items t.cells)) v ≡ Machine.pair (held s a) (held s b) = ap (value_of (meanings (vec_items t.cells))) is ∙ ap (λ m. m.pair) G.here in
-      let here : pair_at (vec_items t.cells) (length cs) ≡ true = ap (λ x. pair_at x (length cs)) G.cells_are ∙ pair_here cs a b in
-      let below : length cs < length (vec_items t.cells) = omega arith in
-      let at : ValueIn (vec_items t.cells) (length (vec_items t.cells)) v = subst (ValueIn (vec_items t.cells) (length (vec_items t.cells))) (sym is) (below, here) in (
-        record { store_in = G.store_in; stations_few = h.stations_few; site_in = h.site_in; phase_in = at; continuation_in = continuation_on s.store t next A next-in },
-        alike_state s t next (Now.Back v) A ∙ (λ i. Machine.state (sites_of s) s.site (over s next) (Machine.back (val i)) (record { frames = length (vec_items s.store.frames); bindings = G.bindings_are i; pairs = one i })),
+      let val : value_of (meanings t.cells.items) v ≡ Machine.pair (held s a) (held s b) = ap (value_of (meanings t.cells.items)) is ∙ ap (λ m. m.pair) G.here in
+      let here : pair_at t.cells.items (length cs) ≡ true = ap (λ x. pair_at x (length cs)) G.cells_are ∙ pair_here cs a b in
+      let below : length cs < length t.cells.items = omega arith in
+      let at : ValueIn t.cells.items (length t.cells.items) v = subst (ValueIn t.cells.items (length t.cells.items)) (sym is) (below, here) in
+      let h : StateIn s.stations s.site next (Now.Back v) t = record { store_in = G.store_in; stations_few = (sound s).stations_few; site_in = (sound s).site_in; work_in = (at, continuation_on s.store t next A next-in) } in (
+        h,
+        alike_state s t next (Now.Back v) h A ∙ (λ i. Machine.state (sites_of s) s.site (over s next) (Machine.back (val i)) (record { frames = length s.store.frames.items; bindings = G.bindings_are i; pairs = one i })),
       )

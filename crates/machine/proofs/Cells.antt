@@ -1,6 +1,6 @@
 -- A new cell: what holds stays, and all that there was means the same.
-use Rattle.std.proofs.Common.{◌≡◌, ℕ, suc, ◌+◌, ◌≤◌, List, [], ◌∷◌, ◌++◌, map, length, get_or, vec_items, vec_capacity, Vec, sym, refl, ap, ◌∙◌, subst, arith}
-use Rattle.std.specs.declared.alloc.Global.{Global}
+use Rattle.std.proofs.Common.{◌≡◌, ℕ, suc, ◌+◌, ◌≤◌, List, [], ◌∷◌, ◌++◌, map, length, get_or, sym, refl, ap, ◌∙◌, subst, arith}
+use Rattle.rows.specs.Rows.{Rows}
 use Rattle.machine.specs.Meaning.{Meaning, blank, cell_of, meanings, value_of, chains, published_of}
 use Rattle.machine.specs.Sound.{CellIn, FrameIn, Each, RowIn, StoreIn}
 use Rattle.machine.specs.Store.{with_cells, CellPushed}
@@ -17,39 +17,37 @@ row_more cs ds m r l h = record {
   kept_in = h.kept_in;
   published_few = h.published_few;
   kept_few = h.kept_few;
-  room_published = h.room_published;
-  room_kept = h.room_kept;
 }
 
 -- published values over more cells
 published_over : (ms ns : List Meaning) (cs : List Cell) (m : ℕ) (rs : List SiteRow) → length ms ≡ length cs → Each (λ _ r. RowIn cs m r) rs → map (published_of (ms ++ ns)) rs ≡ map (published_of ms) rs
 published_over ms ns cs m rs long all =
     map_same (published_of (ms ++ ns)) (published_of ms) rs
-    (λ i r e. map_same (value_of (ms ++ ns)) (value_of ms) (vec_items r.published) (λ j v q. value_stays ms ns cs v (rw long ((all i r e).published_in j v q))))
+    (λ i r e. map_same (value_of (ms ++ ns)) (value_of ms) r.published.items (λ j v q. value_stays ms ns cs v (rw long ((all i r e).published_in j v q))))
 
 -- tables with one cell more
 pub record Grown (s t : Store) (c : Cell) (b p : ℕ) : Type 0 where
   pub store_in : StoreIn t
-  pub cells_are : vec_items t.cells ≡ vec_items s.cells ++ c ∷ []
-  pub cells_long : length (vec_items t.cells) ≡ suc (length (vec_items s.cells))
-  pub frames_same : vec_items t.frames ≡ vec_items s.frames
-  pub here : get_or (meanings (vec_items t.cells)) (length (vec_items s.cells)) blank ≡ cell_of (meanings (vec_items s.cells)) c
-  pub chains_same : chains (meanings (vec_items t.cells)) (vec_items t.frames) ≡ chains (meanings (vec_items s.cells)) (vec_items s.frames)
-  pub published_same : map (published_of (meanings (vec_items t.cells))) t.rows ≡ map (published_of (meanings (vec_items s.cells))) s.rows
+  pub cells_are : t.cells.items ≡ s.cells.items ++ c ∷ []
+  pub cells_long : length t.cells.items ≡ suc (length s.cells.items)
+  pub frames_same : t.frames.items ≡ s.frames.items
+  pub here : get_or (meanings t.cells.items) (length s.cells.items) blank ≡ cell_of (meanings s.cells.items) c
+  pub chains_same : chains (meanings t.cells.items) t.frames.items ≡ chains (meanings s.cells.items) s.frames.items
+  pub published_same : map (published_of (meanings t.cells.items)) t.rows ≡ map (published_of (meanings s.cells.items)) s.rows
   pub rows_same : t.rows ≡ s.rows
   pub bindings_are : t.bindings ≡ b
   pub pairs_are : t.pairs ≡ p
 
-module _ (s : Store) (T : StoreIn s) (c : Cell) (c-in : CellIn (vec_items s.cells) (length (vec_items s.cells)) c) (b p : ℕ) (counted : b + p ≡ s.bindings + s.pairs + 1) (b-few : b ≤ 4096) (p-few : p ≤ 2048) where
-  grown_main : (v : Vec Cell Global) → vec_items v ≡ vec_items s.cells ++ c ∷ [] → vec_capacity v ≡ vec_capacity s.cells → Grown s (with_cells s v b p) c b p
-  grown_main v items room =
-      let cs = vec_items s.cells in
-      let fs = vec_items s.frames in
+module _ (s : Store) (T : StoreIn s) (c : Cell) (c-in : CellIn s.cells.items (length s.cells.items) c) (b p : ℕ) (counted : b + p ≡ s.bindings + s.pairs + 1) (b-few : b ≤ 4096) (p-few : p ≤ 2048) where
+  grown_main : (v : Rows Cell) → v.items ≡ s.cells.items ++ c ∷ [] → Grown s (with_cells s v b p) c b p
+  grown_main v items =
+      let cs = s.cells.items in
+      let fs = s.frames.items in
       let ms = meanings cs in
-      let long : length (vec_items v) ≡ suc (length cs) = ap length items ∙ length_push cs c in
+      let long : length v.items ≡ suc (length cs) = ap length items ∙ length_push cs c in
       let more : length (cs ++ c ∷ []) ≡ suc (length cs) = length_push cs c in
       let ms-long : length ms ≡ length cs = meanings_length cs in
-      let ms' : meanings (vec_items v) ≡ ms ++ cell_of ms c ∷ [] = ap meanings items ∙ meanings_push cs c in
+      let ms' : meanings v.items ≡ ms ++ cell_of ms c ∷ [] = ap meanings items ∙ meanings_push cs c in
       let cells-all : Each (λ i x. CellIn (cs ++ c ∷ []) i x) (cs ++ c ∷ []) =
       each_push (λ i x. CellIn (cs ++ c ∷ []) i x) cs c (λ i x q. cell_up cs (c ∷ []) i i (omega arith) x (T.cells_in i x q)) (cell_up cs (c ∷ []) (length cs) (length cs) (omega arith) c c-in) in
       let frames-all : Each (λ i f. FrameIn (cs ++ c ∷ []) i f) fs =
@@ -66,8 +64,6 @@ module _ (s : Store) (T : StoreIn s) (c : Cell) (c-in : CellIn (vec_items s.cell
           bindings_few = b-few;
           pairs_few = p-few;
           frames_few = T.frames_few;
-          cells_room = (let q = T.cells_room in omega arith);
-          frames_room = T.frames_room;
         };
         cells_are = items;
         cells_long = long;
@@ -81,4 +77,4 @@ module _ (s : Store) (T : StoreIn s) (c : Cell) (c-in : CellIn (vec_items s.cell
       }
 
   pub grown : (t : Store) → CellPushed s t c b p → Grown s t c b p
-  grown t q = let G : Store → Type 0 = λ x. Grown s x c b p in subst G (sym q.rest) (grown_main t.cells q.cells q.room)
+  grown t q = let G : Store → Type 0 = λ x. Grown s x c b p in subst G (sym q.rest) (grown_main t.cells q.cells)

@@ -1,9 +1,10 @@
 -- What an accepted program gives a machine that starts it.
-use Rattle.std.proofs.Common.{◌≡◌, ℕ, zero, suc, ◌+◌, ◌<◌, ◌≤◌, Bool, true, false, List, [], ◌∷◌, length, take, length-take, get_or, Ok, sym, refl, ap, ◌∙◌, subst, arith}
+use Rattle.std.proofs.Common.{◌≡◌, ℕ, zero, suc, ◌+◌, ◌<◌, ◌≤◌, true, List, [], ◌∷◌, length, get_or, Some, None, Ok, Option as Maybe, is_some, sym, refl, ap, ◌∙◌, subst, arith}
 use mathlib.Core.Option.{Option, some}
 use mathlib.Core.Logic.{∥∥₁_elim}
 use Rattle.instruments.specs.declared.sheet.Station.{Station}
 use Rattle.instruments.specs.Fitted.{Fitted}
+use Rattle.instruments.specs.Sheets.{stations_of}
 use Rattle.calculus.specs.Types.{gauges_there, gates_there}
 use Rattle.syntax.specs.Sound.{TySound, TermSound}
 use Rattle.syntax.specs.Tests.{sound_test}
@@ -30,12 +31,13 @@ use Rattle.checker.specs.Sheeting.{place_stations}
 use Rattle.checker.proofs.Whole.{sorted_types}
 use Rattle.machine.specs.Answers.{of_terms}
 use Rattle.machine.specs.Meaning.{state_of}
-use Rattle.machine.specs.Sound.{StateIn}
 use Rattle.machine.specs.Safe.{Holds, Carried}
 use Rattle.machine.specs.Calls.{start_answered, started_into, LawOf, MarksLawOf}
-use Rattle.machine.proofs.Props.{holds_prop, state_prop}
+use Rattle.machine.proofs.Held.{holds_prop}
 use Rattle.machine.proofs.Typed.{started_holds}
 use Rattle.machine.specs.declared.parts.State.{State}
+use Rattle.machine.specs.declared.place.Machine.{Machine as MachinePlace}
+use Rattle.machine.specs.declared.place.Started.{Started}
 
 -- the parts of a sound row have larger numbers
 sound_above : (types n high : ℕ) (r : TermRow) → TermSound types (n + 1) high r → Above n r
@@ -79,18 +81,17 @@ well_typed : (P : Program) (A : Ty) → check P ≡ typed A → WellTyped P A
 well_typed P A e = (subst (Verdict (WellTyped P)) e (check_decides P)).0
 
 -- a started copy of an accepted program
-pub copy_holds : (P : Program) (A : Ty) (s : State) → sound_test P.types P.terms P.sheet ≡ true → check P ≡ typed A → StateIn s → s.stations ≡ length P.sheet → state_of s ≡ Machine.started P → Holds (of_terms P.terms) P.sheet s
-copy_holds P A s sound e h n m = let o = ordered P sound in started_holds P A s (states_stand P A o) (simulation P o) agrees_after (well_typed P A e) h n m
+pub copy_holds : (P : Program) (A : Ty) (s : State) → sound_test P.types P.terms P.sheet ≡ true → check P ≡ typed A → s.stations ≡ length P.sheet → state_of s ≡ Machine.started P → Holds (of_terms P.terms) P.sheet s
+copy_holds P A s sound e n m = let o = ordered P sound in started_holds P A s (states_stand P A o) (simulation P o) agrees_after (well_typed P A e) n m
 
 -- a sheet is within the limits, site by site
-few_there : (n : ℕ) (xs : List Station) → Fitted xs → (s : ℕ) → (gauges_there (take n xs) s ≤ 32) × (gates_there (take n xs) s ≤ 32)
-few_there zero xs f s = (omega arith, omega arith)
-few_there (suc n) [] f s = (omega arith, omega arith)
-few_there (suc n) (x ∷ xs) f zero = f 0 x (omega arith)
-few_there (suc n) (x ∷ xs) f (suc s) = few_there n xs (λ k d h. f (suc k) d (omega arith)) s
+few_there : (xs : List Station) → Fitted xs → (s : ℕ) → (gauges_there xs s ≤ 32) × (gates_there xs s ≤ 32)
+few_there [] f s = (omega arith, omega arith)
+few_there (x ∷ xs) f zero = f 0 x (omega arith)
+few_there (x ∷ xs) f (suc s) = few_there xs (λ k d h. f (suc k) d (omega arith)) s
 
-pub on_limits : (n : ℕ) (xs : List Station) → n ≤ 16 → Fitted xs → OnLimits (take n xs)
-on_limits n xs h f = (omega (arith, length-take n xs), few_there n xs f)
+pub on_limits : (xs : List Station) → length xs ≤ 16 → Fitted xs → OnLimits xs
+on_limits xs h f = (h, few_there xs f)
 
 -- the tables that were copied, and what is started from them
 module _ (types : List TypeRow) (terms : List TermRow) (stations : List Station) (start : ℕ) where
@@ -104,24 +105,22 @@ module _ (types : List TypeRow) (terms : List TermRow) (stations : List Station)
   start_within empty w k q = absurd w
   start_within (full P A) w k q = subst (λ (p : Program). p.start < length p.sheet) (sym (is_copy P A w q)) (well_typed P A k.1).0
 
-  pub started_copy : (Q : Place) (s : State) → Views Q types terms start → Carries Q → Ok stations ≡ place_stations Q → StateIn s → s.stations ≡ length stations → state_of s ≡ Machine.started copied → Holds (of_terms terms) stations s
-  started_copy empty s w k q h n m = absurd w
-  started_copy (full P A) s w k q h n m =
+  pub started_copy : (Q : Place) (s : State) → Views Q types terms start → Carries Q → Ok stations ≡ place_stations Q → s.stations ≡ length stations → state_of s ≡ Machine.started copied → Holds (of_terms terms) stations s
+  started_copy empty s w k q n m = absurd w
+  started_copy (full P A) s w k q n m =
       let e = is_copy P A w q in
-      subst (λ (p : Program). Holds (of_terms p.terms) p.sheet s) (sym e) (copy_holds P A s k.0 k.1 h (n ∙ ap (λ (p : Program). length p.sheet) e) (m ∙ ap Machine.started e))
+      subst (λ (p : Program). Holds (of_terms p.terms) p.sheet s) (sym e) (copy_holds P A s k.0 k.1 (n ∙ ap (λ (p : Program). length p.sheet) e) (m ∙ ap Machine.started e))
 
   -- what a start answers and leaves
   pub start_tells : OnLimits stations → (Q : Place) → Views Q types terms start → Carries Q → Ok stations ≡ place_stations Q → (p : Option Marked) → (Ok tt ≡ start_answered Q) × (some (start_marked copied) ≡ started_into p Q) × LawOf Q × MarksLawOf Q
   start_tells few empty w k q p = absurd w
   start_tells few (full P A) w k q p = (refl, ap (λ (x : Program). some (start_marked x)) (is_copy P A w q), log_law P A (ordered P k.0) k.1, marks_law P (subst (λ (p : Program). OnLimits p.sheet) (is_copy P A w q) few))
 
-kept_in : (b : Bool) (ts : List TermRow) (S : List Station) (s : State) → Carried b ts S s → StateIn s
-kept_in true ts S s k = k.state_in
-kept_in false ts S s k = k
+module _ (m : MachinePlace) where
+  pub kept_holds : (d : Started) → m.started ≡ Some d → Holds (of_terms m.terms.items) (stations_of d.sheet) m.state
+  kept_holds d e = ∥∥₁_elim (subst (λ o. ∥ Carried o m.terms.items m.state ∥₁) e m.carried) (holds_prop (of_terms m.terms.items) (stations_of d.sheet) m.state) (λ k. k)
 
-pub kept_state : (b : Bool) (ts : List TermRow) (S : List Station) (s : State) → ∥ Carried b ts S s ∥₁ → StateIn s
-kept_state b ts S s h = ∥∥₁_elim h (state_prop s) (kept_in b ts S s)
-
-pub kept_holds : (b : Bool) (ts : List TermRow) (S : List Station) (s : State) → b ≡ true → ∥ Carried b ts S s ∥₁ → Holds (of_terms ts) S s
-kept_holds true ts S s e h = ∥∥₁_elim h (holds_prop (of_terms ts) S s) (λ k. k)
-kept_holds false ts S s e h = absurd (grind arith)
+-- a start that is there
+pub a_start : (o : Maybe Started) → is_some o ≡ true → (d : Started) × o ≡ Some d
+a_start (Some d) e = (d, refl)
+a_start None e = absurd (grind (arith, e))

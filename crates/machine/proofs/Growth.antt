@@ -4,6 +4,8 @@ use mathlib.Core.Option.{some, none as nothing, none-ne-some}
 use lib.ListN.{get_elem?}
 use Rattle.machine.specs.Grow.{grow}
 use Rattle.machine.specs.Sound.{Each}
+use Rattle.machine.specs.Store.{reads}
+use Rattle.std.specs.List.{slice_get}
 
 module _ {A : Type 0} where
   pub elem_read : (xs : List A) (n i : ℕ) (x : A) → n ≡ length xs → i < n → x ≡ get_or xs i x → get_elem? xs i ≡ some x
@@ -15,6 +17,13 @@ module _ {A : Type 0} where
   elem_getD [] i d h = absurd (omega arith)
   elem_getD (y ∷ xs) zero d h = refl
   elem_getD (y ∷ xs) (suc i) d h = elem_getD xs i d (omega arith)
+
+  -- what the code reads at a place, as the calculus writes it
+  pub elem_get : (xs : List A) (i : ℕ) → reads (slice_get xs i) ≡ get_elem? xs i
+  elem_get [] zero = refl
+  elem_get [] (suc i) = refl
+  elem_get (y ∷ xs) zero = refl
+  elem_get (y ∷ xs) (suc i) = elem_get xs i
 
   pub elem_past : (xs : List A) (i : ℕ) → length xs ≤ i → get_elem? xs i ≡ nothing
   elem_past [] i h = refl

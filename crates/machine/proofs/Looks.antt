@@ -1,10 +1,9 @@
 -- The rules that only look something up.
-use Rattle.std.proofs.Common.{◌≡◌, ℕ, zero, suc, ◌<◌, true, List, [], ◌∷◌, map, length, get_or, take, vec_items, sym, refl, ap, ◌∙◌, arith}
+use Rattle.std.proofs.Common.{◌≡◌, ℕ, zero, suc, ◌<◌, true, List, [], ◌∷◌, map, get_or, take, sym, refl, ap, ◌∙◌, arith}
 use mathlib.Core.Option.{some, none as nothing, none-ne-some}
 use lib.ListN.{get_elem?}
 use Rattle.calculus.specs.Machine
 use Rattle.machine.specs.Meaning.{value_of, continuation_of, phase_of, published_of, kept_of, cells_of, chains_of, sites_of, places_of, state_of}
-use Rattle.machine.specs.Sound.{ContinuationIn, PhaseIn, StateIn}
 use Rattle.machine.specs.Answers.{over, held}
 use Rattle.machine.specs.declared.parts.Value.{Value}
 use Rattle.machine.specs.declared.parts.Continuation.{Continuation}
@@ -15,7 +14,7 @@ use mathlib.Core.Option.{Option}
 use Rattle.calculus.specs.Tables.{entry}
 use Rattle.calculus.specs.Step.{Works, Event, quiet}
 use Rattle.calculus.specs.Limits.{lacking, no_place}
-use Rattle.machine.specs.Answers.{answered, Goes, is_some, going, resuming}
+use Rattle.machine.specs.Answers.{answered, went, Goes, is_some, going, resuming}
 use Rattle.machine.specs.Lookups.{a_value}
 use Rattle.machine.proofs.Room.{site_row, map_elem, fits_none}
 
@@ -48,30 +47,26 @@ module _ (s : State) where
   kept_within w c e = within_take (map (kept_of (chains_of s)) s.store.rows) s.stations w c e
 
   module _ (w : ℕ) (l : w < s.stations) (r : SiteRow) (was : get_elem? s.store.rows w ≡ some r) (c : ℕ) where
-    pub kept_read : (k : Continuation) → some k ≡ get_elem? (vec_items r.kept) c → entry (sites_of s).kept w c ≡ some (over s k)
-    kept_read k e = ap (λ x. get_elem? x c) (site_row (kept_of (chains_of s)) s.store.rows s.stations w r l was) ∙ map_elem (continuation_of (chains_of s)) (vec_items r.kept) c k (sym e)
+    pub kept_read : (k : Continuation) → some k ≡ get_elem? r.kept.items c → entry (sites_of s).kept w c ≡ some (over s k)
+    kept_read k e = ap (λ x. get_elem? x c) (site_row (kept_of (chains_of s)) s.store.rows s.stations w r l was) ∙ map_elem (continuation_of (chains_of s)) r.kept.items c k (sym e)
 
-    pub kept_missing : nothing ≡ get_elem? (vec_items r.kept) c → entry (sites_of s).kept w c ≡ nothing
-    kept_missing e = ap (λ x. get_elem? x c) (site_row (kept_of (chains_of s)) s.store.rows s.stations w r l was) ∙ map_none (continuation_of (chains_of s)) (vec_items r.kept) c (sym e)
+    pub kept_missing : nothing ≡ get_elem? r.kept.items c → entry (sites_of s).kept w c ≡ nothing
+    kept_missing e = ap (λ x. get_elem? x c) (site_row (kept_of (chains_of s)) s.store.rows s.stations w r l was) ∙ map_none (continuation_of (chains_of s)) r.kept.items c (sym e)
 
-    pub published_read : (v : Value) → some v ≡ get_elem? (vec_items r.published) c → entry (sites_of s).published w c ≡ some (held s v)
-    published_read v e = ap (λ x. get_elem? x c) (site_row (published_of (cells_of s)) s.store.rows s.stations w r l was) ∙ map_elem (value_of (cells_of s)) (vec_items r.published) c v (sym e)
+    pub published_read : (v : Value) → some v ≡ get_elem? r.published.items c → entry (sites_of s).published w c ≡ some (held s v)
+    published_read v e = ap (λ x. get_elem? x c) (site_row (published_of (cells_of s)) s.store.rows s.stations w r l was) ∙ map_elem (value_of (cells_of s)) r.published.items c v (sym e)
 
-    pub published_missing : nothing ≡ get_elem? (vec_items r.published) c → entry (sites_of s).published w c ≡ nothing
-    published_missing e = ap (λ x. get_elem? x c) (site_row (published_of (cells_of s)) s.store.rows s.stations w r l was) ∙ map_none (value_of (cells_of s)) (vec_items r.published) c (sym e)
+    pub published_missing : nothing ≡ get_elem? r.published.items c → entry (sites_of s).published w c ≡ nothing
+    published_missing e = ap (λ x. get_elem? x c) (site_row (published_of (cells_of s)) s.store.rows s.stations w r l was) ∙ map_none (value_of (cells_of s)) r.published.items c (sym e)
 
-  module _ (h : StateIn s) where
-    pub go_goes : (next : Continuation) (p : Phase) (v : Works) → ContinuationIn (length (vec_items s.store.frames)) next → PhaseIn (vec_items s.store.cells) (length (vec_items s.store.cells)) p → Goes s (record { stations = s.stations; site = s.site; continuation = next; phase = p; store = s.store }) v (going v s next p)
-    go_goes next p v next-in p-in = (record { store_in = h.store_in; stations_few = h.stations_few; site_in = h.site_in; phase_in = p-in; continuation_in = next-in }, refl, ap (answered (Machine.next v (sites_of s) s.site (places_of s) (over s next) (phase_of (cells_of s) p))) (fits_none s h))
+  pub go_goes : (next : Continuation) (p : Phase) (v : Works) → going v s next p ≡ went (Machine.state (sites_of s) s.site (over s next) (phase_of (cells_of s) p) (places_of s)) v
+  go_goes next p v = ap (answered (Machine.next v (sites_of s) s.site (places_of s) (over s next) (phase_of (cells_of s) p))) (fits_none s)
 
-    pub resume_goes : (w c : ℕ) (k : Continuation) (p : Phase) (v : Works) → w < s.stations → ContinuationIn (length (vec_items s.store.frames)) k → PhaseIn (vec_items s.store.cells) (length (vec_items s.store.cells)) p → entry (sites_of s).kept w c ≡ some (over s k) → Goes s (record { stations = s.stations; site = w; continuation = k; phase = p; store = s.store }) v (resuming v s w c p)
-    resume_goes w c k p v w-in k-in p-in e = (
-      record { store_in = h.store_in; stations_few = h.stations_few; site_in = w-in; phase_in = p-in; continuation_in = k-in },
-      refl,
+  pub resume_goes : (w c : ℕ) (k : Continuation) (p : Phase) (v : Works) → entry (sites_of s).kept w c ≡ some (over s k) → resuming v s w c p ≡ went (Machine.state (sites_of s) w (over s k) (phase_of (cells_of s) p) (places_of s)) v
+  resume_goes w c k p v e =
       ap (λ o. answered (Machine.resume v (sites_of s) s.site (places_of s) w (phase_of (cells_of s) p) o) (lacking no_place (state_of s))) e
-          ∙ ap (answered (Machine.stepped (Machine.state (sites_of s) w (over s k) (phase_of (cells_of s) p) (places_of s)) v quiet)) (fits_none s h),
-    )
+      ∙ ap (answered (Machine.stepped (Machine.state (sites_of s) w (over s k) (phase_of (cells_of s) p) (places_of s)) v quiet)) (fits_none s)
 
-    -- a step over another event goes the same way
-    pub event_goes : (t : State) (v : Works) (L : Machine.State) (d e : Event) (l : Option ℕ) → Goes s t v (answered (Machine.stepped L v d) l) → Goes s t v (answered (Machine.stepped L v e) l)
-    event_goes t v L d e l g = (g.0, g.1, event_free L v e d l ∙ g.2)
+  -- a step over another event goes the same way
+  pub event_goes : (t : State) (v : Works) (L : Machine.State) (d e : Event) (l : Option ℕ) → Goes s t v (answered (Machine.stepped L v d) l) → Goes s t v (answered (Machine.stepped L v e) l)
+  event_goes t v L d e l g = (g.0, event_free L v e d l ∙ g.1)

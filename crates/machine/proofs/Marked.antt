@@ -4,6 +4,8 @@ use lib.Bits.{bit_or, or_step, or_zero_r}
 use lib.Count.{ones, ones_step}
 use Rattle.std.proofs.lemmas.List.{set-append_left, set-append_right}
 use Rattle.std.proofs.lemmas.Nat.{one_shl}
+use Rattle.std.specs.List.{sum_by}
+use Rattle.std.proofs.lemmas.List.Sums.{sum_by-cons}
 use Rattle.calculus.specs.Marks.{Marks, no_marks, marks_set}
 use Rattle.machine.specs.Marks.{low_bits, bits_of}
 
@@ -71,8 +73,10 @@ set_joins [] ns = omega arith
 set_joins (true ∷ ms) ns = let e = set_joins ms ns in omega arith
 set_joins (false ∷ ms) ns = set_joins ms ns
 
-pub byte_counts : (b : ℕ) (bs : List ℕ) → b < 256 → marks_set (bits_of (b ∷ bs)) ≡ ones b + marks_set (bits_of bs)
-byte_counts b bs h = set_joins (low_bits 8 b) (bits_of bs) ∙ ap (λ (n : ℕ). n + marks_set (bits_of bs)) (set_counts 8 b h)
+-- the marks set in bytes, one byte after the other
+pub bytes_count : (bs : List ℕ) → ((k : ℕ) → get_or bs k 0 < 256) → sum_by ones bs ≡ marks_set (bits_of bs)
+bytes_count [] h = refl
+bytes_count (b ∷ bs) h = sum_by-cons ones b bs ∙ (λ i. sym (set_counts 8 b (h 0)) i + bytes_count bs (λ k. h (suc k)) i) ∙ sym (set_joins (low_bits 8 b) (bits_of bs))
 
 -- bytes with no bit
 no_bits : (n : ℕ) → bits_of (replicate n 0) ≡ replicate (8 * n) false

@@ -1,18 +1,11 @@
--- What holds of a machine holds in one way, so it comes out of its truncation again.
-use Rattle.std.proofs.Common.{ℕ, zero, suc, List, length}
+-- What holds of a machine's tables holds in one way.
+use Rattle.std.proofs.Common.{ℕ, List, length}
 use mathlib.Core.Bool.{Bool-set}
-use mathlib.Core.HLevel.{⊥_prop, Unit-prop, Π_prop, ×_prop}
+use mathlib.Core.HLevel.{Unit-prop, Π_prop, ×_prop}
 use mathlib.Core.Logic.{∥∥₁_elim}
 use native.Mathlib.Bridge.{le_prop}
 use native.Mathlib.Nat.{ℕ_set}
-use Rattle.calculus.specs.Types.{Sheet}
-use Rattle.calculus.specs.Program.{Program}
-use Rattle.calculus.specs.Machine
-use Rattle.calculus.specs.Step.{Works}
-use Rattle.calculus.specs.NetworkTyping.{Agrees}
-use Rattle.machine.specs.Meaning.{state_of}
 use Rattle.machine.specs.Sound.{EnvironmentIn, ValueIn, BoundIn, CellIn, ContinuationIn, TaskIn, FrameIn, PhaseIn, Each, RowIn, StoreIn, StateIn}
-use Rattle.machine.specs.Safe.{Onward, SafeFor, Holds}
 use Rattle.machine.specs.declared.parts.Environment.{Environment}
 use Rattle.machine.specs.declared.parts.Environment.TheVariants as Env
 use Rattle.machine.specs.declared.parts.Value.{Value}
@@ -29,7 +22,6 @@ use Rattle.machine.specs.declared.parts.Phase.{Phase}
 use Rattle.machine.specs.declared.parts.Phase.TheVariants as Now
 use Rattle.machine.specs.declared.parts.SiteRow.{SiteRow}
 use Rattle.machine.specs.declared.parts.Store.{Store}
-use Rattle.machine.specs.declared.parts.State.{State}
 
 environment_prop : (n : ℕ) (e : Environment) → IsProp (EnvironmentIn n e)
 environment_prop n Env.Empty = Unit-prop
@@ -86,8 +78,6 @@ row_prop cs m r a b = λ i. record {
   kept_in = each_prop (λ _ k. ContinuationIn m k) _ (λ _ k. continuation_prop m k) a.kept_in b.kept_in i;
   published_few = le_prop a.published_few b.published_few i;
   kept_few = le_prop a.kept_few b.kept_few i;
-  room_published = le_prop a.room_published b.room_published i;
-  room_kept = le_prop a.room_kept b.room_kept i;
 }
 
 store_prop : (t : Store) → IsProp (StoreIn t)
@@ -100,41 +90,19 @@ store_prop t a b = λ i. record {
   bindings_few = le_prop a.bindings_few b.bindings_few i;
   pairs_few = le_prop a.pairs_few b.pairs_few i;
   frames_few = le_prop a.frames_few b.frames_few i;
-  cells_room = le_prop a.cells_room b.cells_room i;
-  frames_room = le_prop a.frames_room b.frames_room i;
 }
 
-pub state_prop : (s : State) → IsProp (StateIn s)
-state_prop s a b = λ i. record {
-  store_in = store_prop s.store a.store_in b.store_in i;
+pub state_prop : (stations site : ℕ) (k : Continuation) (p : Phase) (t : Store) → IsProp (StateIn stations site k p t)
+state_prop stations site k p t a b = λ i. record {
+  store_in = store_prop t a.store_in b.store_in i;
   stations_few = le_prop a.stations_few b.stations_few i;
   site_in = le_prop a.site_in b.site_in i;
-  phase_in = phase_prop _ _ s.phase a.phase_in b.phase_in i;
-  continuation_in = continuation_prop _ s.continuation a.continuation_in b.continuation_in i;
+  work_in = ×_prop (phase_prop _ _ p) (continuation_prop _ k) a.work_in b.work_in i;
 }
 
-agrees_prop : (S : Sheet) (v : Works) → IsProp (Agrees S v)
-agrees_prop S v a b = λ i. record {
-  gauges = Π_prop (λ s. ℕ_set _ _) a.gauges b.gauges i;
-  gates = Π_prop (λ s. ℕ_set _ _) a.gates b.gates i;
-}
+-- so it comes out of its truncation again
+pub cells_out : (cs : List Cell) → ∥ Each (λ i c. CellIn cs i c) cs ∥₁ → Each (λ i c. CellIn cs i c) cs
+cells_out cs h = ∥∥₁_elim h (each_prop (λ i c. CellIn cs i c) cs (λ i c. cell_prop cs i c)) (λ x. x)
 
-onward_prop : (o : Machine.Outcome) (Q : Machine.State → Works → Type 0) → ((L : Machine.State) (u : Works) → IsProp (Q L u)) → IsProp (Onward o Q)
-onward_prop (Machine.stepped L u e) Q h = h L u
-onward_prop (Machine.silent κ s n) Q h = Unit-prop
-onward_prop Machine.stuck Q h = ⊥_prop
-
-safe_for_prop : (k : ℕ) (P : Program) (S : Sheet) (M : Machine.State) → IsProp (SafeFor k P S M)
-safe_for_prop zero P S M = Unit-prop
-safe_for_prop (suc k) P S M =
-    Π_prop (λ v. Π_prop (λ a. Π_prop (λ on. onward_prop (Machine.step P v M) _ (λ L u x y. λ i. (le_prop x.0 y.0 i, agrees_prop S u x.1 y.1 i, safe_for_prop k P S L x.2 y.2 i)))))
-
-pub holds_prop : (P : Program) (S : Sheet) (s : State) → IsProp (Holds P S s)
-holds_prop P S s a b = λ i. record {
-  state_in = state_prop s a.state_in b.state_in i;
-  stations_are = ℕ_set _ _ a.stations_are b.stations_are i;
-  safe = Π_prop (λ k. safe_for_prop k P S (state_of s)) a.safe b.safe i;
-}
-
-pub holds_out : {P : Program} {S : Sheet} {s : State} → ∥ Holds P S s ∥₁ → Holds P S s
-holds_out {P} {S} {s} h = ∥∥₁_elim h (holds_prop P S s) (λ x. x)
+pub value_out : (cs : List Cell) (n : ℕ) (v : Value) → ∥ ValueIn cs n v ∥₁ → ValueIn cs n v
+value_out cs n v h = ∥∥₁_elim h (value_prop cs n v) (λ x. x)

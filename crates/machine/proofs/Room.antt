@@ -1,5 +1,5 @@
 -- The room that a rule asks for, and how a rule ends.
-use Rattle.std.proofs.Common.{◌≡◌, ℕ, zero, suc, ◌+◌, ◌<◌, ◌≤◌, cond, ltb, List, [], ◌∷◌, map, length, get_or, take, Ok, Err, vec_items, sym, refl, ap, ◌∙◌, subst, arith, le-ltb, lt-ltb}
+use Rattle.std.proofs.Common.{◌≡◌, ℕ, zero, suc, ◌+◌, ◌<◌, ◌≤◌, cond, ltb, List, [], ◌∷◌, map, length, get_or, take, Err, sym, refl, ap, ◌∙◌, subst, arith, le-ltb, lt-ltb}
 use mathlib.Core.Option.{Option, some, none as nothing, none-ne-some}
 use lib.ListN.{get_elem?}
 use Rattle.calculus.specs.Machine
@@ -9,13 +9,17 @@ use Rattle.machine.specs.Store.{published_in, kept_in, published_count, kept_cou
 use Rattle.calculus.specs.Tables.{count}
 use Rattle.machine.specs.Meaning.{state_of, cells_of, chains_of, sites_of, places_of, published_of, kept_of, value_of, continuation_of, phase_of}
 use Rattle.machine.specs.Sound.{StateIn}
+use mathlib.Core.HLevel.{is_prop→PathP}
+use mathlib.Core.Logic.{∥∥₁_prop}
 use Rattle.machine.specs.Answers.{Ends, answered, went, kind}
 use Rattle.machine.proofs.Growth.{elem_default}
 use Rattle.machine.specs.declared.parts.State.{State}
 use Rattle.machine.specs.declared.parts.SiteRow.{SiteRow}
+use Rattle.machine.specs.declared.parts.Store.{Store}
 use Rattle.lines.specs.declared.refusal.StepFault.{StepFault}
 use Rattle.lines.specs.declared.refusal.StepFault.TheVariants.{Full}
 use Rattle.lines.specs.declared.refusal.Table.{Table}
+use Rattle.machine.proofs.Sound.{sound}
 
 module _ {A : Type 0} where
   pub take_default : (xs : List A) (n i : ℕ) (d : A) → i < n → get_or (take n xs) i d ≡ get_or xs i d
@@ -85,8 +89,8 @@ module _ (t : Taken) (H : Machine.Sites) (w : ℕ) (k : Machine.Continuation) (p
           lacks_none h = on4 ∙ ap (λ x. cond x (some 5) nothing) (le-ltb 256 (count H.kept w + t.kept) h)
 
 -- the row of the site where work stands
-pub row_here : (s : State) → StateIn s → (r : SiteRow) × (get_elem? s.store.rows s.site ≡ some r)
-row_here s h = go s.store.rows s.site (let a = h.store_in.rows_are in let b = h.site_in in let c = h.stations_few in omega arith)
+pub row_here : (s : State) → (r : SiteRow) × (get_elem? s.store.rows s.site ≡ some r)
+row_here s = go s.store.rows s.site (let a = (sound s).store_in.rows_are in let b = (sound s).site_in in let c = (sound s).stations_few in omega arith)
   where
     go : (rs : List SiteRow) (w : ℕ) → w < length rs → (r : SiteRow) × (get_elem? rs w ≡ some r)
     go [] w l = absurd (omega arith)
@@ -94,34 +98,38 @@ row_here s h = go s.store.rows s.site (let a = h.store_in.rows_are in let b = h.
     go (r ∷ rs) (suc w) l = go rs w (omega arith)
 
 -- how many entries the site has where work stands
-pub published_here : (s : State) (r : SiteRow) → StateIn s → get_elem? s.store.rows s.site ≡ some r → count (sites_of s).published s.site ≡ length (vec_items r.published)
-published_here s r h e = ap length (site_row (published_of (cells_of s)) s.store.rows s.stations s.site r h.site_in e) ∙ map_length (value_of (cells_of s)) (vec_items r.published)
+pub published_here : (s : State) (r : SiteRow) → get_elem? s.store.rows s.site ≡ some r → count (sites_of s).published s.site ≡ length r.published.items
+published_here s r e = ap length (site_row (published_of (cells_of s)) s.store.rows s.stations s.site r (sound s).site_in e) ∙ map_length (value_of (cells_of s)) r.published.items
 
-pub kept_here : (s : State) (r : SiteRow) → StateIn s → get_elem? s.store.rows s.site ≡ some r → count (sites_of s).kept s.site ≡ length (vec_items r.kept)
-kept_here s r h e = ap length (site_row (kept_of (chains_of s)) s.store.rows s.stations s.site r h.site_in e) ∙ map_length (continuation_of (chains_of s)) (vec_items r.kept)
+pub kept_here : (s : State) (r : SiteRow) → get_elem? s.store.rows s.site ≡ some r → count (sites_of s).kept s.site ≡ length r.kept.items
+kept_here s r e = ap length (site_row (kept_of (chains_of s)) s.store.rows s.stations s.site r (sound s).site_in e) ∙ map_length (continuation_of (chains_of s)) r.kept.items
 
-pub published_few : (s : State) → StateIn s → count (sites_of s).published s.site ≤ 128
-published_few s h = let r = row_here s h in let e = published_here s r.0 h r.1 in let f = (h.store_in.rows_in s.site r.0 r.1).published_few in omega arith
+pub published_few : (s : State) → count (sites_of s).published s.site ≤ 128
+published_few s = let r = row_here s in let e = published_here s r.0 r.1 in let f = ((sound s).store_in.rows_in s.site r.0 r.1).published_few in omega arith
 
-pub kept_few : (s : State) → StateIn s → count (sites_of s).kept s.site ≤ 256
-kept_few s h = let r = row_here s h in let e = kept_here s r.0 h r.1 in let f = (h.store_in.rows_in s.site r.0 r.1).kept_few in omega arith
+pub kept_few : (s : State) → count (sites_of s).kept s.site ≤ 256
+kept_few s = let r = row_here s in let e = kept_here s r.0 r.1 in let f = ((sound s).store_in.rows_in s.site r.0 r.1).kept_few in omega arith
 
 -- a rule that has its places
-pub ends_ok : (s t : State) (v u : Works) (L : Machine.State) (e : Event) (l : Option ℕ) → StateIn t → t.stations ≡ s.stations → l ≡ nothing → state_of t ≡ L → Ends {U = Unit {0}} (Ok tt) s t v u (answered (Machine.stepped L u e) l)
-ends_ok s t v u L e l h n none q = (h, n, ap (answered (Machine.stepped L u e)) none ∙ ap (λ M. went M u) (sym q))
+pub goes_on : (u : Works) (M L : Machine.State) (e : Event) (l : Option ℕ) → l ≡ nothing → M ≡ L → answered (Machine.stepped L u e) l ≡ went M u
+goes_on u M L e l none q = ap (answered (Machine.stepped L u e)) none ∙ ap (λ K. went K u) (sym q)
 
 -- a rule that lacks them
-pub ends_full : (s : State) (v u : Works) (L : Machine.State) (e : Event) (l : Option ℕ) (f : StepFault) (k : Table) → f ≡ Full k → l ≡ some (kind k) → Ends {U = Unit {0}} (Err f) s s v v (answered (Machine.stepped L u e) l)
-ends_full s v u L e l f k fe le = subst (λ x. Ends {U = Unit {0}} (Err x) s s v v (answered (Machine.stepped L u e) l)) (sym fe) (refl, refl, ap (answered (Machine.stepped L u e)) le)
+pub ends_full : (s t : State) (v u : Works) (L : Machine.State) (e : Event) (l : Option ℕ) (f : StepFault) (k : Table) → t ≡ s → f ≡ Full k → l ≡ some (kind k) → Ends {U = Unit {0}} (Err f) s t v v (answered (Machine.stepped L u e) l)
+ends_full s t v u L e l f k te fe le = subst (λ x. Ends {U = Unit {0}} (Err x) s t v v (answered (Machine.stepped L u e) l)) (sym fe) (te, refl, ap (answered (Machine.stepped L u e)) le)
+
+-- a state whose tables are as they were
+pub store_same : (s : State) (t : Store) (e : t ≡ s.store) (h : ∥ StateIn s.stations s.site s.continuation s.phase t ∥₁) → ◌≡◌ {A = State} (record { stations = s.stations; site = s.site; continuation = s.continuation; phase = s.phase; store = t; sound = h }) s
+store_same s t e h = λ i. record { stations = s.stations; site = s.site; continuation = s.continuation; phase = s.phase; store = e i; sound = is_prop→PathP (λ i. ∥ StateIn s.stations s.site s.continuation s.phase (e i) ∥₁) (λ i. ∥∥₁_prop) h s.sound i }
 
 -- the room tests of the site where work stands
-pub published_counted : (s : State) → StateIn s → published_count s.store s.site ≡ count (sites_of s).published s.site
-published_counted s h = let r = row_here s h in ap published_in r.1 ∙ sym (published_here s r.0 h r.1)
+pub published_counted : (s : State) → published_count s.store s.site ≡ count (sites_of s).published s.site
+published_counted s = let r = row_here s in ap published_in r.1 ∙ sym (published_here s r.0 r.1)
 
-pub kept_counted : (s : State) → StateIn s → kept_count s.store s.site ≡ count (sites_of s).kept s.site
-kept_counted s h = let r = row_here s h in ap kept_in r.1 ∙ sym (kept_here s r.0 h r.1)
+pub kept_counted : (s : State) → kept_count s.store s.site ≡ count (sites_of s).kept s.site
+kept_counted s = let r = row_here s in ap kept_in r.1 ∙ sym (kept_here s r.0 r.1)
 
-module _ (s : State) (h : StateIn s) where
+module _ (s : State) where
   abbrev k : Machine.Continuation
   k = continuation_of (chains_of s) s.continuation
 
@@ -129,60 +137,63 @@ module _ (s : State) (h : StateIn s) where
   p = phase_of (cells_of s) s.phase
 
   -- the tables have room for what is asked of one, since they are within their limits
-  pub room_for : (t : Taken) → length (vec_items s.store.frames) + t.frames ≤ 4096 → s.store.bindings + t.bindings ≤ 4096 → s.store.pairs + t.pairs ≤ 2048 → count (sites_of s).published s.site + t.published ≤ 128 → count (sites_of s).kept s.site + t.kept ≤ 256 → lacking t (state_of s) ≡ nothing
+  pub room_for : (t : Taken) → length s.store.frames.items + t.frames ≤ 4096 → s.store.bindings + t.bindings ≤ 4096 → s.store.pairs + t.pairs ≤ 2048 → count (sites_of s).published s.site + t.published ≤ 128 → count (sites_of s).kept s.site + t.kept ≤ 256 → lacking t (state_of s) ≡ nothing
   room_for t a b d e f = lacks_none t (sites_of s) s.site k p (places_of s) a b d e f
 
   pub fits_none : lacking no_place (state_of s) ≡ nothing
   fits_none =
-      let T = h.store_in in let x = T.frames_few in let y = T.bindings_few in let z = T.pairs_few in let u = published_few s h in let w = kept_few s h in
+      let T = (sound s).store_in in let x = T.frames_few in let y = T.bindings_few in let z = T.pairs_few in let u = published_few s in let w = kept_few s in
       room_for no_place (omega arith) (omega arith) (omega arith) (omega arith) (omega arith)
 
-  pub fits_frame : length (vec_items s.store.frames) + 1 ≤ 4096 → lacking a_frame (state_of s) ≡ nothing
+  pub fits_frame : length s.store.frames.items + 1 ≤ 4096 → lacking a_frame (state_of s) ≡ nothing
   fits_frame few =
-      let T = h.store_in in let y = T.bindings_few in let z = T.pairs_few in let u = published_few s h in let w = kept_few s h in
+      let T = (sound s).store_in in let y = T.bindings_few in let z = T.pairs_few in let u = published_few s in let w = kept_few s in
       room_for a_frame few (omega arith) (omega arith) (omega arith) (omega arith)
+
+  pub lack_frame : 4096 < length s.store.frames.items + 1 → lacking a_frame (state_of s) ≡ some 1
+  lack_frame many = lacks_frames a_frame (sites_of s) s.site k p (places_of s) many
 
   pub fits_binding : s.store.bindings + 1 ≤ 4096 → lacking a_binding (state_of s) ≡ nothing
   fits_binding few =
-      let T = h.store_in in let x = T.frames_few in let z = T.pairs_few in let u = published_few s h in let w = kept_few s h in
+      let T = (sound s).store_in in let x = T.frames_few in let z = T.pairs_few in let u = published_few s in let w = kept_few s in
       room_for a_binding (omega arith) few (omega arith) (omega arith) (omega arith)
 
   pub fits_two : s.store.bindings + 2 ≤ 4096 → lacking two_bindings (state_of s) ≡ nothing
   fits_two few =
-      let T = h.store_in in let x = T.frames_few in let z = T.pairs_few in let u = published_few s h in let w = kept_few s h in
+      let T = (sound s).store_in in let x = T.frames_few in let z = T.pairs_few in let u = published_few s in let w = kept_few s in
       room_for two_bindings (omega arith) few (omega arith) (omega arith) (omega arith)
 
   pub fits_pair : s.store.pairs + 1 ≤ 2048 → lacking a_pair (state_of s) ≡ nothing
   fits_pair few =
-      let T = h.store_in in let x = T.frames_few in let y = T.bindings_few in let u = published_few s h in let w = kept_few s h in
+      let T = (sound s).store_in in let x = T.frames_few in let y = T.bindings_few in let u = published_few s in let w = kept_few s in
       room_for a_pair (omega arith) (omega arith) few (omega arith) (omega arith)
 
   pub fits_published : published_count s.store s.site + 1 ≤ 128 → lacking a_published (state_of s) ≡ nothing
   fits_published few =
-      let T = h.store_in in let x = T.frames_few in let y = T.bindings_few in let z = T.pairs_few in let q = published_counted s h in let w = kept_few s h in
+      let T = (sound s).store_in in let x = T.frames_few in let y = T.bindings_few in let z = T.pairs_few in let q = published_counted s in let w = kept_few s in
       room_for a_published (omega arith) (omega arith) (omega arith) (omega arith) (omega arith)
 
   pub lack_published : 128 < published_count s.store s.site + 1 → lacking a_published (state_of s) ≡ some 4
   lack_published many =
-      let T = h.store_in in let x = T.frames_few in let y = T.bindings_few in let z = T.pairs_few in let q = published_counted s h in
+      let T = (sound s).store_in in let x = T.frames_few in let y = T.bindings_few in let z = T.pairs_few in let q = published_counted s in
       lacks_published a_published (sites_of s) s.site k p (places_of s) (omega arith) (omega arith) (omega arith) (omega arith)
 
   pub fits_kept : kept_count s.store s.site + 1 ≤ 256 → lacking a_kept (state_of s) ≡ nothing
   fits_kept few =
-      let T = h.store_in in let x = T.frames_few in let y = T.bindings_few in let z = T.pairs_few in let q = kept_counted s h in let w = published_few s h in
+      let T = (sound s).store_in in let x = T.frames_few in let y = T.bindings_few in let z = T.pairs_few in let q = kept_counted s in let w = published_few s in
       room_for a_kept (omega arith) (omega arith) (omega arith) (omega arith) (omega arith)
 
   pub lack_kept : 256 < kept_count s.store s.site + 1 → lacking a_kept (state_of s) ≡ some 5
   lack_kept many =
-      let T = h.store_in in let x = T.frames_few in let y = T.bindings_few in let z = T.pairs_few in let q = kept_counted s h in let w = published_few s h in
+      let T = (sound s).store_in in let x = T.frames_few in let y = T.bindings_few in let z = T.pairs_few in let q = kept_counted s in let w = published_few s in
       lacks_kept a_kept (sites_of s) s.site k p (places_of s) (omega arith) (omega arith) (omega arith) (omega arith) (omega arith)
 
   pub fits_binding_and_kept : s.store.bindings + 1 ≤ 4096 → kept_count s.store s.site + 1 ≤ 256 → lacking a_binding_and_kept (state_of s) ≡ nothing
   fits_binding_and_kept few fewer =
-      let T = h.store_in in let x = T.frames_few in let z = T.pairs_few in let q = kept_counted s h in let w = published_few s h in
+      let T = (sound s).store_in in let x = T.frames_few in let z = T.pairs_few in let q = kept_counted s in let w = published_few s in
       room_for a_binding_and_kept (omega arith) few (omega arith) (omega arith) (omega arith)
 
   pub lack_binding_and_kept : s.store.bindings + 1 ≤ 4096 → 256 < kept_count s.store s.site + 1 → lacking a_binding_and_kept (state_of s) ≡ some 5
   lack_binding_and_kept few many =
-      let T = h.store_in in let x = T.frames_few in let z = T.pairs_few in let q = kept_counted s h in let w = published_few s h in
+      let T = (sound s).store_in in let x = T.frames_few in let z = T.pairs_few in let q = kept_counted s in let w = published_few s in
       lacks_kept a_binding_and_kept (sites_of s) s.site k p (places_of s) (omega arith) few (omega arith) (omega arith) (omega arith)

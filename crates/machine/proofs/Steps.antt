@@ -1,5 +1,5 @@
 -- The step at each shape of the state.
-use Rattle.std.proofs.Common.{◌≡◌, ℕ, zero, suc, ◌<◌, true, false, List, [], ◌∷◌, length, vec_items, refl, ap, ◌∙◌, subst, arith}
+use Rattle.std.proofs.Common.{◌≡◌, ℕ, zero, suc, ◌<◌, true, false, List, [], ◌∷◌, length, refl, ap, ◌∙◌, subst, arith}
 use mathlib.Core.Option.{Option, some, none as nothing}
 use lib.ListN.{get_elem?}
 use Rattle.syntax.specs.declared.program.Term.{Term as TermRow}
@@ -9,7 +9,6 @@ use Rattle.calculus.specs.Step.{Works}
 use Rattle.calculus.specs.Tables.{entry}
 use Rattle.calculus.specs.Limits.{lacks, lacking, lacking_for, eval_rule, back_rule, takes, row_rule, frame_rule}
 use Rattle.machine.specs.Meaning.{cells_of, sites_of, places_of, state_of, phase_of, task_of}
-use Rattle.machine.specs.Sound.{StateIn}
 use Rattle.machine.specs.Answers.{Lands, answered, is_some, scope, held, over, of_terms, stepped_on, evaluated, row_stepped, resuming, framed, worked}
 use Rattle.machine.proofs.Stays.{chains_read}
 use Rattle.machine.specs.declared.parts.Environment.{Environment}
@@ -20,6 +19,7 @@ use Rattle.machine.specs.declared.parts.Continuation.TheVariants as Cont
 use Rattle.machine.specs.declared.parts.Phase.{Phase}
 use Rattle.machine.specs.declared.parts.Phase.TheVariants as Now
 use Rattle.machine.specs.declared.parts.State.{State}
+use Rattle.machine.proofs.Sound.{sound}
 
 pub elem_within : {A : Type 0} (xs : List A) (i : ℕ) → is_some (get_elem? xs i) ≡ true → i < length xs
 elem_within [] i e = absurd (grind arith)
@@ -85,9 +85,9 @@ module _ (ts : List TermRow) (v : Works) (s : State) where
       pub return_answer : stepped_on v s P ≡ resuming v s w c (Now.Back u)
       return_answer = λ i. answered (at_back (Cont.Return w c) e i) (lacks_back (Cont.Return w c) e i)
 
-    module _ (h : StateIn s) (i : ℕ) (e : s.continuation ≡ Cont.Frame i) (f : Frame) (q : get_elem? (vec_items s.store.frames) i ≡ some f) where
+    module _ (i : ℕ) (e : s.continuation ≡ Cont.Frame i) (f : Frame) (q : get_elem? s.store.frames.items i ≡ some f) where
       top : over s (Cont.Frame i) ≡ Machine.push (task_of (cells_of s) f.task) (over s f.next)
-      top = chains_read (cells_of s) (vec_items s.store.cells) (vec_items s.store.frames) i f h.store_in.frames_in q
+      top = chains_read (cells_of s) s.store.cells.items s.store.frames.items i f (sound s).store_in.frames_in q
 
       pub frame_step : Machine.step P v (state_of s) ≡ framed v s P f.next u f.task
       frame_step = at_back (Cont.Frame i) e ∙ ap (Machine.back_step v (sites_of s) s.site (places_of s) P (held s u)) top
@@ -99,8 +99,8 @@ module _ (ts : List TermRow) (v : Works) (s : State) where
       frame_answer = λ j. answered (frame_step j) (frame_lacks j)
 
 -- a frame on top is not the end
-pub frame_on : (s : State) (u : Value) (i : ℕ) → StateIn s → s.phase ≡ Now.Back u → s.continuation ≡ Cont.Frame i → (f : Frame) → get_elem? (vec_items s.store.frames) i ≡ some f → Machine.is_finished (state_of s) ≡ false
-frame_on s u i h ph e f q =
+pub frame_on : (s : State) (u : Value) (i : ℕ) → s.phase ≡ Now.Back u → s.continuation ≡ Cont.Frame i → (f : Frame) → get_elem? s.store.frames.items i ≡ some f → Machine.is_finished (state_of s) ≡ false
+frame_on s u i ph e f q =
     ap (λ p. Machine.is_finished (Machine.state (sites_of s) s.site (over s s.continuation) (phase_of (cells_of s) p) (places_of s))) ph
     ∙ ap (λ k. Machine.is_finished (Machine.state (sites_of s) s.site (over s k) (Machine.back (held s u)) (places_of s))) e
-    ∙ ap (λ k. Machine.is_finished (Machine.state (sites_of s) s.site k (Machine.back (held s u)) (places_of s))) (chains_read (cells_of s) (vec_items s.store.cells) (vec_items s.store.frames) i f h.store_in.frames_in q)
+    ∙ ap (λ k. Machine.is_finished (Machine.state (sites_of s) s.site k (Machine.back (held s u)) (places_of s))) (chains_read (cells_of s) s.store.cells.items s.store.frames.items i f (sound s).store_in.frames_in q)

@@ -10,12 +10,12 @@ use Rattle.calculus.specs.Simulation.{StateTyped, StatesTyped}
 use Rattle.calculus.specs.Theorems.{SheetStays}
 use Rattle.machine.specs.Answers.{of_terms}
 use Rattle.machine.specs.Safe.{Onward, SafeFor, Safe, Holds}
-use Rattle.machine.specs.Sound.{StateIn}
 use Rattle.machine.specs.Meaning.{state_of}
 use Rattle.machine.specs.declared.parts.State.{State}
 use mathlib.Core.Option.{Option, some, none as nothing}
 use Rattle.calculus.specs.Limits.{lacks}
-use Rattle.calculus.specs.Run.{Result, stop, one_more, execute, done, at_full, at_silent, broken}
+use Rattle.calculus.proofs.Turns.{run_by}
+use Rattle.calculus.specs.Run.{Result, one_more, execute}
 
 -- a step sees the terms of a program only
 frame_terms : (P : Program) (v : Works) (H : Machine.Sites) (w : ℕ) (c : Machine.Places) (u : Machine.Value) (k : Machine.Continuation) → Machine.back_step v H w c (of_terms P.terms) u k ≡ Machine.back_step v H w c P u k
@@ -63,9 +63,8 @@ module _ (P : Program) (A : Ty) (T : StatesTyped P A) (sim : (v : Works) (M : Ma
   typed_safe M h k = safe_for k M h
 
 -- A started program of a type is safe: this is what a start owes.
-pub started_holds : (P : Program) (A : Ty) (s : State) → StatesTyped P A → ((v : Works) (M : Machine.State) → step v (network_of P M) ≡ outcome_of P (Machine.step P v M)) → SheetStays → WellTyped P A → StateIn s → s.stations ≡ length P.sheet → state_of s ≡ Machine.started P → Holds (of_terms P.terms) P.sheet s
-started_holds P A s T sim stays typed h n e = record {
-  state_in = h;
+pub started_holds : (P : Program) (A : Ty) (s : State) → StatesTyped P A → ((v : Works) (M : Machine.State) → step v (network_of P M) ≡ outcome_of P (Machine.step P v M)) → SheetStays → WellTyped P A → s.stations ≡ length P.sheet → state_of s ≡ Machine.started P → Holds (of_terms P.terms) P.sheet s
+started_holds P A s T sim stays typed n e = record {
   stations_are = n;
   safe = typed_safe P A T sim stays (state_of s) (subst (StateTyped P A) (sym e) (T.start typed));
 }
@@ -74,29 +73,17 @@ lacks_terms : (P : Program) (M : Machine.State) → lacks (of_terms P.terms) M �
 lacks_terms P (Machine.state H w k (Machine.eval p ρ) c) = refl
 lacks_terms P (Machine.state H w k (Machine.back u) c) = refl
 
-module _ (P : Program) (v : Works) (M : Machine.State) where
-  -- a run by what its step and its limits say
-  abbrev run_by : (Works → Machine.State → Result) → Bool → Machine.Outcome → Option ℕ → Result
-  run_by next d o l = elim d as (λ _. Result) [
-    | true ↦ stop done v M
-    | false ↦
-        elim o as (λ _. Result) [
-          | Machine.stepped L u e ↦ elim l as (λ _. Result) [ nothing ↦ one_more e (next u L) | some κ ↦ stop (at_full κ (Machine.stands_at M)) v M ]
-          | Machine.silent κ s n ↦ stop (at_silent κ s n) v M
-          | Machine.stuck ↦ stop broken v M
-        ]
-  ]
-
-  run_same : (f g : Works → Machine.State → Result) → ((u : Works) (L : Machine.State) → f u L ≡ g u L) → (d : Bool) (o : Machine.Outcome) (l : Option ℕ) → run_by f d o l ≡ run_by g d o l
-  run_same f g same true o l = refl
-  run_same f g same false (Machine.stepped L u e) nothing = ap (one_more e) (same u L)
-  run_same f g same false (Machine.stepped L u e) (some k) = refl
-  run_same f g same false (Machine.silent κ s n) l = refl
-  run_same f g same false Machine.stuck l = refl
+-- a run goes as its rest does
+run_same : (v : Works) (M : Machine.State) (f g : Works → Machine.State → Result) → ((u : Works) (L : Machine.State) → f u L ≡ g u L) → (d : Bool) (o : Machine.Outcome) (l : Option ℕ) → run_by v M f d o l ≡ run_by v M g d o l
+run_same v M f g same true o l = refl
+run_same v M f g same false (Machine.stepped L u e) nothing = ap (one_more e) (same u L)
+run_same v M f g same false (Machine.stepped L u e) (some k) = refl
+run_same v M f g same false (Machine.silent κ s n) l = refl
+run_same v M f g same false Machine.stuck l = refl
 
 -- a run sees the terms of a program only
 pub execute_terms : (P : Program) (b : ℕ) (v : Works) (M : Machine.State) → execute (of_terms P.terms) b v M ≡ execute P b v M
 execute_terms P zero v M = refl
 execute_terms P (suc b) v M =
-    (λ i. run_by P v M (execute (of_terms P.terms) b) (Machine.is_finished M) (step_terms P v M i) (lacks_terms P M i))
-    ∙ run_same P v M (execute (of_terms P.terms) b) (execute P b) (λ u L. execute_terms P b u L) (Machine.is_finished M) (Machine.step P v M) (lacks P M)
+    (λ i. run_by v M (execute (of_terms P.terms) b) (Machine.is_finished M) (step_terms P v M i) (lacks_terms P M i))
+    ∙ run_same v M (execute (of_terms P.terms) b) (execute P b) (λ u L. execute_terms P b u L) (Machine.is_finished M) (Machine.step P v M) (lacks P M)

@@ -11,7 +11,6 @@ use Rattle.calculus.specs.Limits.{takes, row_rule, frame_rule, lacks, lacking, a
 use Rattle.calculus.specs.Tables.{Table as Tabled, count, entry}
 use Rattle.calculus.specs.Program.{Program}
 use Rattle.machine.specs.Meaning.{state_of, cells_of, chains_of, sites_of, places_of, environment_of, value_of, bound_of, continuation_of, task_of, phase_of}
-use Rattle.machine.specs.Sound.{StateIn}
 use Rattle.machine.specs.declared.parts.Environment.{Environment}
 use Rattle.machine.specs.declared.parts.Value.{Value}
 use Rattle.machine.specs.declared.parts.Bound.{Bound}
@@ -67,7 +66,7 @@ Met f a = MetBy f.instrument f.fault a
 
 -- The code went on from the state s to t, with a works that shows u then, as the answer says.
 abbrev pub Goes : State → State → Works → Answer → Type 0
-Goes s t u a = StateIn t × (t.stations ≡ s.stations) × (a ≡ went (state_of t) u)
+Goes s t u a = (t.stations ≡ s.stations) × (a ≡ went (state_of t) u)
 
 -- The code went from the state s and a works that shows v to t and u, as the answer says. A fault leaves all as it was.
 abbrev pub Ends : {U : Type 0} → Result U StepFault → State → State → Works → Works → Answer → Type 0

@@ -1,5 +1,5 @@
 -- What a place for a machine holds, and what its calls answer and leave.
-use Rattle.std.specs.Prelude.{ℕ, cond, List, Ok, Err, vec_items, Result, ◌==◌}
+use Rattle.std.specs.Prelude.{ℕ, cond, List, Some, None, Ok, Err, Option as Maybe, Result, ◌==◌}
 use Rattle.std.proofs.Math.Option.{Option, some, none as nothing}
 use Rattle.lines.specs.Writing.{written, written_after}
 use Rattle.lines.specs.declared.refusal.Refusal.{Refusal}
@@ -19,20 +19,24 @@ use Rattle.calculus.specs.Law.{LogsLawful}
 use Rattle.checker.specs.Accepting.{Place as ProgramPlace}
 use Rattle.checker.specs.Accepting.Place.{empty, full}
 use Rattle.machine.specs.Meaning.{state_of}
-use Rattle.machine.specs.Marks.{bits_of}
 use Rattle.machine.specs.Texts.{answer_line}
 use Rattle.machine.specs.StandLine.{stand_line}
 use Rattle.machine.specs.declared.parts.Run.{Run}
 use Rattle.machine.specs.declared.parts.Run.TheVariants.{Done, Spent}
 use Rattle.machine.specs.declared.place.Machine.{Machine}
+use Rattle.machine.specs.declared.place.Started.{Started}
 
 -- the machine's own copy of a program
-abbrev pub program_of : Machine → Program
-program_of m = record { sheet = stations_of m.sheet; types = vec_items m.types; terms = vec_items m.terms; start = m.start }
+abbrev pub program_of : Machine → Started → Program
+program_of m d = record { sheet = stations_of d.sheet; types = m.types.items; terms = m.terms.items; start = d.start }
 
 -- A place is empty, or full with a program, the state that the tables stand for, and the marks of the registers touched.
+abbrev pub kept_machine : Machine → Maybe Started → Option Marked
+kept_machine m (Some d) = some (record { program = program_of m d; state = state_of m.state; marks = m.marks })
+kept_machine m None = nothing
+
 abbrev pub place : Machine → Option Marked
-place m = cond m.full (some (record { program = program_of m; state = state_of m.state; marks = bits_of m.marks })) nothing
+place m = kept_machine m m.started
 
 -- A start answers 25 where nothing was accepted.
 abbrev pub start_answered : ProgramPlace → Result Unit Refusal

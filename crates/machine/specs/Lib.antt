@@ -12,14 +12,12 @@ pub mod Lookups
 pub mod Answers
 -- what always holds of a machine
 pub mod Safe
--- what a run answers
-pub mod Runs
 -- the marks of registers, in bytes
 pub mod Marks
 -- which register a step touches
 pub mod Touching
--- what a run that marks registers answers
-pub mod MarkedRuns
+-- what a run answers, and the marks after it
+pub mod Runs
 -- how values are written
 pub mod Texts
 -- where a machine stands

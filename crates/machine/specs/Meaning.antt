@@ -1,5 +1,5 @@
 -- What the tables of a machine stand for: a state of the environment machine.
-use Rattle.std.specs.Prelude.{List, [], map, length, get_or, take, vec_items, slice_index_or}
+use Rattle.std.specs.Prelude.{List, [], map, length, get_or, take, slice_index_or}
 use Rattle.calculus.specs.Machine
 use Rattle.machine.specs.Grow.{grow}
 use Rattle.machine.specs.declared.parts.Environment.{Environment}
@@ -87,16 +87,16 @@ phase_of ms (Now.Eval p e) = Machine.eval p (environment_of ms e)
 phase_of ms (Now.Back v) = Machine.back (value_of ms v)
 
 abbrev pub published_of : List Meaning → SiteRow → List Machine.Value
-published_of ms r = map (value_of ms) (vec_items r.published)
+published_of ms r = map (value_of ms) r.published.items
 
 abbrev pub kept_of : List Machine.Continuation → SiteRow → List Machine.Continuation
-kept_of ks r = map (continuation_of ks) (vec_items r.kept)
+kept_of ks r = map (continuation_of ks) r.kept.items
 
 abbrev pub cells_of : State → List Meaning
-cells_of s = meanings (vec_items s.store.cells)
+cells_of s = meanings s.store.cells.items
 
 abbrev pub chains_of : State → List Machine.Continuation
-chains_of s = chains (cells_of s) (vec_items s.store.frames)
+chains_of s = chains (cells_of s) s.store.frames.items
 
 -- The tables of the sites that there are: the first so many of the 16 rows.
 abbrev pub sites_of : State → Machine.Sites
@@ -106,7 +106,7 @@ sites_of s = record {
 }
 
 abbrev pub places_of : State → Machine.Places
-places_of s = record { frames = length (vec_items s.store.frames); bindings = s.store.bindings; pairs = s.store.pairs }
+places_of s = record { frames = length s.store.frames.items; bindings = s.store.bindings; pairs = s.store.pairs }
 
 -- The state of the environment machine that a machine's state stands for.
 abbrev pub state_of : State → Machine.State

@@ -1,5 +1,6 @@
--- What always holds of a machine: its tables are sound, and it never gets stuck, whatever a works of its sheet shows.
-use Rattle.std.specs.Prelude.{◌≡◌, ℕ, zero, suc, ◌<◌, Bool, true, false, List, length}
+-- What always holds of a machine: it never gets stuck, whatever a works of its sheet shows.
+use Rattle.std.specs.Prelude.{◌≡◌, ℕ, zero, suc, ◌<◌, false, List, length, Some, None, Option as Maybe}
+use Rattle.instruments.specs.Sheets.{stations_of}
 use Rattle.syntax.specs.declared.program.Term.{Term as TermRow}
 use Rattle.machine.specs.Answers.{of_terms}
 use Rattle.calculus.specs.Types.{Sheet}
@@ -8,8 +9,8 @@ use Rattle.calculus.specs.Machine
 use Rattle.calculus.specs.Step.{Works}
 use Rattle.calculus.specs.NetworkTyping.{Agrees}
 use Rattle.machine.specs.Meaning.{state_of}
-use Rattle.machine.specs.Sound.{StateIn}
 use Rattle.machine.specs.declared.parts.State.{State}
+use Rattle.machine.specs.declared.place.Started.{Started}
 
 -- There is a step to such a state and works, or a silent register is met.
 abbrev pub Onward : Machine.Outcome → (Machine.State → Works → Type 0) → Type 0
@@ -29,11 +30,10 @@ Safe P S M = (k : ℕ) → SafeFor k P S M
 
 -- A machine of a program over a sheet.
 pub record Holds (P : Program) (S : Sheet) (s : State) : Type 0 where
-  pub state_in : StateIn s
   pub stations_are : s.stations ≡ length S
   pub safe : Safe P S (state_of s)
 
--- What a place for a machine carries: tables that can be used again, and of a machine that was started, that it is one.
-abbrev pub Carried : Bool → List TermRow → Sheet → State → Type 0
-Carried true ts S s = Holds (of_terms ts) S s
-Carried false ts S s = StateIn s
+-- What a place for a machine carries: of a machine that was started, that it is one.
+abbrev pub Carried : Maybe Started → List TermRow → State → Type 0
+Carried (Some d) ts s = Holds (of_terms ts) (stations_of d.sheet) s
+Carried None ts s = Unit {0}

@@ -1,5 +1,5 @@
 -- What always holds of a machine's tables: each entry names only earlier entries, and the tables are within their limits.
-use Rattle.std.specs.Prelude.{◌≡◌, ℕ, zero, suc, ◌+◌, ◌<◌, ◌≤◌, Bool, true, false, List, [], ◌∷◌, length, vec_items, vec_capacity}
+use Rattle.std.specs.Prelude.{◌≡◌, ℕ, zero, suc, ◌+◌, ◌<◌, ◌≤◌, Bool, true, false, List, [], ◌∷◌, length}
 use Rattle.std.proofs.Math.Option.{some}
 use Rattle.std.proofs.Math.ListN.{get_elem?}
 use Rattle.machine.specs.declared.parts.Environment.{Environment}
@@ -19,7 +19,6 @@ use Rattle.machine.specs.declared.parts.Phase.{Phase}
 use Rattle.machine.specs.declared.parts.Phase.TheVariants as Now
 use Rattle.machine.specs.declared.parts.SiteRow.{SiteRow}
 use Rattle.machine.specs.declared.parts.Store.{Store}
-use Rattle.machine.specs.declared.parts.State.{State}
 
 -- whether a cell is a pair
 abbrev pub is_pair : Cell → Bool
@@ -82,38 +81,36 @@ abbrev pub PhaseIn : List Cell → ℕ → Phase → Type 0
 PhaseIn cs n (Now.Eval p e) = EnvironmentIn n e
 PhaseIn cs n (Now.Back v) = ValueIn cs n v
 
+-- What is done, and over which continuation, names entries that there are.
+abbrev pub WorkIn : Store → Phase → Continuation → Type 0
+WorkIn t p k = PhaseIn t.cells.items (length t.cells.items) p × ContinuationIn (length t.frames.items) k
+
 -- what holds of each entry of a list, at its place
 abbrev pub Each : {A : Type 0} → (ℕ → A → Type 0) → List A → Type 0
 Each {A} P xs = (i : ℕ) (x : A) → get_elem? xs i ≡ some x → P i x
 
--- What one site has published and kept names cells and frames that there are; its tables are within their limits, and have
--- memory for all of them.
+-- What one site has published and kept names cells and frames that there are; its tables are within their limits.
 pub record RowIn (cs : List Cell) (m : ℕ) (r : SiteRow) : Type 0 where
-  pub published_in : Each (λ _ v. ValueIn cs (length cs) v) (vec_items r.published)
-  pub kept_in : Each (λ _ k. ContinuationIn m k) (vec_items r.kept)
-  pub published_few : length (vec_items r.published) ≤ 128
-  pub kept_few : length (vec_items r.kept) ≤ 256
-  pub room_published : 128 ≤ vec_capacity r.published
-  pub room_kept : 256 ≤ vec_capacity r.kept
+  pub published_in : Each (λ _ v. ValueIn cs (length cs) v) r.published.items
+  pub kept_in : Each (λ _ k. ContinuationIn m k) r.kept.items
+  pub published_few : length r.published.items ≤ 128
+  pub kept_few : length r.kept.items ≤ 256
 
 -- Every cell and frame names earlier ones only, the cells are the bindings and the pairs, and the tables are within their
--- limits and have memory for all of them.
+-- limits.
 pub record StoreIn (t : Store) : Type 0 where
-  pub cells_in : Each (λ i c. CellIn (vec_items t.cells) i c) (vec_items t.cells)
-  pub frames_in : Each (λ i f. FrameIn (vec_items t.cells) i f) (vec_items t.frames)
-  pub rows_in : Each (λ _ r. RowIn (vec_items t.cells) (length (vec_items t.frames)) r) t.rows
+  pub cells_in : Each (λ i c. CellIn t.cells.items i c) t.cells.items
+  pub frames_in : Each (λ i f. FrameIn t.cells.items i f) t.frames.items
+  pub rows_in : Each (λ _ r. RowIn t.cells.items (length t.frames.items) r) t.rows
   pub rows_are : length t.rows ≡ 16
-  pub counts : t.bindings + t.pairs ≡ length (vec_items t.cells)
+  pub counts : t.bindings + t.pairs ≡ length t.cells.items
   pub bindings_few : t.bindings ≤ 4096
   pub pairs_few : t.pairs ≤ 2048
-  pub frames_few : length (vec_items t.frames) ≤ 4096
-  pub cells_room : 6144 ≤ vec_capacity t.cells
-  pub frames_room : 4096 ≤ vec_capacity t.frames
+  pub frames_few : length t.frames.items ≤ 4096
 
 -- The tables are sound, work stands at one of the sites that there are, and what it holds names entries that there are.
-pub record StateIn (s : State) : Type 0 where
-  pub store_in : StoreIn s.store
-  pub stations_few : s.stations ≤ 16
-  pub site_in : s.site < s.stations
-  pub phase_in : PhaseIn (vec_items s.store.cells) (length (vec_items s.store.cells)) s.phase
-  pub continuation_in : ContinuationIn (length (vec_items s.store.frames)) s.continuation
+pub record StateIn (stations site : ℕ) (k : Continuation) (p : Phase) (t : Store) : Type 0 where
+  pub store_in : StoreIn t
+  pub stations_few : stations ≤ 16
+  pub site_in : site < stations
+  pub work_in : WorkIn t p k

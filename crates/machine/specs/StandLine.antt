@@ -1,6 +1,7 @@
 -- Where a machine stands, and the line that says so.
-use Rattle.std.specs.Prelude.{◌≡◌, ℕ, ◌+◌, List, [], ◌∷◌, ◌++◌, length, vec_items, codes, decimal, refl}
+use Rattle.std.specs.Prelude.{◌≡◌, ℕ, List, [], ◌++◌, length, codes, decimal, refl}
 use Rattle.std.specs.Fmt.{digits}
+use Rattle.std.specs.List.{sum_by}
 use Rattle.calculus.specs.Machine
 use Rattle.calculus.specs.Run.{Shown, evaluating, returning, finished, Stand, stand_of}
 use Rattle.calculus.specs.Marks.{Marks, marks_set}
@@ -11,13 +12,11 @@ use Rattle.machine.specs.declared.stand.Stand.{Stand as Counted}
 
 -- how many continuations the sites keep
 abbrev pub kept_places : List SiteRow → ℕ
-kept_places [] = 0
-kept_places (r ∷ rs) = length (vec_items r.kept) + kept_places rs
+kept_places rs = sum_by (λ r. length r.kept.items) rs
 
 -- how many values the sites have published
 abbrev pub published_places : List SiteRow → ℕ
-published_places [] = 0
-published_places (r ∷ rs) = length (vec_items r.published) + published_places rs
+published_places rs = sum_by (λ r. length r.published.items) rs
 
 -- what a machine is doing, as the calculus has it
 abbrev pub work_of : Work → Shown

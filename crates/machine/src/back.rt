@@ -1,5 +1,6 @@
-// Back with a value to the top frame.
-ghost use Rattle.std.specs.Prelude.{◌≡◌, ◌+◌, ◌<◌, ◌≤◌, true, length, if◌then◌else◌, vec_len, vec_capacity, nat_lt};
+// Back with a value to the top frame. The value and what it goes back over stay two parameters: the rules of the calculus name them apart,
+// and so does the state that they are written into.
+ghost use Rattle.std.specs.Prelude.{◌≡◌, ◌+◌, ◌<◌, ◌≤◌, true, length, if◌then◌else◌, nat_lt};
 ghost use Rattle.std.proofs.Math.Option.{some};
 ghost use Rattle.std.proofs.Math.ListN.{get_elem?};
 ghost use Rattle.calculus.specs.Step.{Works as Showing};
@@ -7,7 +8,7 @@ ghost use Rattle.calculus.specs.Program.{Program, body_of};
 ghost use Rattle.calculus.specs.Machine.{pair};
 ghost use Rattle.calculus.specs.Limits.{lacking, no_place};
 ghost use Rattle.machine.specs.Meaning.{state_of};
-ghost use Rattle.machine.specs.Sound.{StateIn, TaskIn, EnvironmentIn, ContinuationIn, ValueIn};
+ghost use Rattle.machine.specs.Sound.{TaskIn, EnvironmentIn, ValueIn, WorkIn};
 ghost use Rattle.machine.specs.Answers.{Goes, Ends, Lands, is_number, is_function, is_code, is_address, is_pair, answered, framed, worked, gated, chosen, shown, held, of_terms};
 ghost use Rattle.machine.specs.declared.parts.Task.TheVariants.{Applied as to_call, Unbox as to_unbox, Open as to_open};
 
@@ -54,10 +55,8 @@ impl State {
         value: Value,
         next: Continuation,
     ) -> Result<(), StepFault>
-        requires state { StateIn self.old }
         requires function { ValueIn self.old.store.cells.items (length self.old.store.cells.items) function }
-        requires value { ValueIn self.old.store.cells.items (length self.old.store.cells.items) value }
-        requires next { ContinuationIn (length self.old.store.frames.items) next }
+        requires work { WorkIn self.old.store (Phase.Back value) next }
         requires kind { is_function (held self.old function) ≡ true }
         ensures { (v : Showing) → Ends result self.old self.new v v (worked v self.old (of_terms program.now) next value (to_call function)) }
     {
@@ -69,9 +68,7 @@ impl State {
 
     // Evaluates the body of code at the site where work stands.
     fn unbox(&mut self, program: &[Term], value: Value, next: Continuation) -> Result<(), StepFault>
-        requires state { StateIn self.old }
-        requires value { ValueIn self.old.store.cells.items (length self.old.store.cells.items) value }
-        requires next { ContinuationIn (length self.old.store.frames.items) next }
+        requires work { WorkIn self.old.store (Phase.Back value) next }
         requires kind { is_code (held self.old value) ≡ true }
         ensures { (v : Showing) → Ends result self.old self.new v v (worked v self.old (of_terms program.now) next value to_unbox) }
     {
@@ -88,7 +85,6 @@ impl State {
 
     // The halves of a pair.
     fn halves(&self, value: Value) -> (Value, Value)
-        requires state { StateIn self.now }
         requires value { ValueIn self.now.store.cells.items (length self.now.store.cells.items) value }
         requires kind { is_pair (held self.now value) ≡ true }
         ensures left { ValueIn self.now.store.cells.items (length self.now.store.cells.items) result.0 }
@@ -112,10 +108,8 @@ impl State {
         value: Value,
         next: Continuation,
     ) -> Result<(), StepFault>
-        requires state { StateIn self.old }
         requires environment { EnvironmentIn (length self.old.store.cells.items) environment }
-        requires value { ValueIn self.old.store.cells.items (length self.old.store.cells.items) value }
-        requires next { ContinuationIn (length self.old.store.frames.items) next }
+        requires work { WorkIn self.old.store (Phase.Back value) next }
         requires kind { is_address (held self.old value) ≡ true }
         ensures { (v : Showing) (P : Program) → Ends result self.old self.new v v (worked v self.old P next value (to_open part environment)) }
     {
@@ -135,11 +129,9 @@ impl State {
         value: Value,
         next: Continuation,
     )
-        requires state { StateIn self.old }
         requires left { ValueIn self.old.store.cells.items (length self.old.store.cells.items) left }
         requires environment { EnvironmentIn (length self.old.store.cells.items) environment }
-        requires value { ValueIn self.old.store.cells.items (length self.old.store.cells.items) value }
-        requires next { ContinuationIn (length self.old.store.frames.items) next }
+        requires work { WorkIn self.old.store (Phase.Back value) next }
         requires first { is_number (held self.old left) ≡ true }
         requires second { is_number (held self.old value) ≡ true }
         ensures { (v : Showing) → Goes self.old self.new v (answered (chosen v self.old next left less otherwise environment value) (lacking no_place (state_of self.old))) }
@@ -162,9 +154,7 @@ impl State {
         next: Continuation,
         works: &mut W,
     ) -> Result<(), StepFault>
-        requires state { StateIn self.old }
-        requires value { ValueIn self.old.store.cells.items (length self.old.store.cells.items) value }
-        requires next { ContinuationIn (length self.old.store.frames.items) next }
+        requires work { WorkIn self.old.store (Phase.Back value) next }
         requires live { Lands self.old.stations (gated (shown (W.Gauges.readings works.old) (W.Works.settings works.old)) self.old next value gate) }
         ensures { Ends result self.old self.new (shown (W.Gauges.readings works.old) (W.Works.settings works.old)) (shown (W.Gauges.readings works.new) (W.Works.settings works.new)) (answered (gated (shown (W.Gauges.readings works.old) (W.Works.settings works.old)) self.old next value gate) (lacking no_place (state_of self.old))) }
     {
@@ -185,10 +175,8 @@ impl State {
         value: Value,
         works: &mut W,
     ) -> Result<(), StepFault>
-        requires state { StateIn self.old }
         requires task { TaskIn self.old.store.cells.items (length self.old.store.cells.items) task }
-        requires next { ContinuationIn (length self.old.store.frames.items) next }
-        requires value { ValueIn self.old.store.cells.items (length self.old.store.cells.items) value }
+        requires work { WorkIn self.old.store (Phase.Back value) next }
         requires live { Lands self.old.stations (framed (shown (W.Gauges.readings works.old) (W.Works.settings works.old)) self.old (of_terms program.now) next value task) }
         ensures { Ends result self.old self.new (shown (W.Gauges.readings works.old) (W.Works.settings works.old)) (shown (W.Gauges.readings works.new) (W.Works.settings works.new)) (worked (shown (W.Gauges.readings works.old) (W.Works.settings works.old)) self.old (of_terms program.now) next value task) }
     {

@@ -7,9 +7,10 @@ ghost use Rattle.machine.specs.Calls.{place as place_of, run_answered, stand_wri
 use crate::parts::Phase;
 use crate::place::{Machine, Run};
 use crate::sheets::differing_site;
-use crate::values::write_answer;
+use crate::values::{Answer, Cells};
 use instruments::works::Works;
 use lines::refusal::Refusal;
+use lines::writing::Printed;
 
 impl Machine {
     // Runs the machine on a works, for at most `budget` steps. It is refused where nothing was started, and then where the works has
@@ -21,15 +22,15 @@ impl Machine {
         ensures works { shown (W.Gauges.readings works.new) (W.Works.settings works.new) ≡ (run_marked (place_of self.old) (shown (W.Gauges.readings works.old) (W.Works.settings works.old)) budget).works }
         ensures joins { MarkedJoin }
     {
-        if !self.full {
+        let Some(started) = self.started else {
             return Err(Refusal::Nothing);
-        }
-        if let Some(site) = differing_site(&self.sheet, works) {
+        };
+        if let Some(site) = differing_site(&started.sheet, works) {
             return Err(Refusal::AnotherSheet(site));
         }
         let run = self
             .state
-            .run_marked(self.terms.as_slice(), works, &mut self.marks, budget)?;
+            .run(self.terms.as_slice(), works, &mut self.marks, budget)?;
         Ok(run)
     }
 
@@ -38,7 +39,7 @@ impl Machine {
         ensures value { result ≡ stand_written (place_of self.now) out.old }
         ensures after { out.new ≡ stand_after (place_of self.now) out.old }
     {
-        if !self.full {
+        if self.started.is_none() {
             return Err(Refusal::Nothing);
         }
         self.state.write_stand(&self.marks, out)
@@ -49,14 +50,20 @@ impl Machine {
         ensures value { result ≡ answer_written (place_of self.now) out.old }
         ensures after { out.new ≡ answer_after (place_of self.now) out.old }
     {
-        if !self.full {
+        if self.started.is_none() {
             return Err(Refusal::Nothing);
         }
         if !self.state.is_done() {
             return Err(Refusal::NotDone);
         }
+        // Done is asked first, by the call that a run asks too: a call that answered the value in an `Option` would be a second one.
         match self.state.phase {
-            Phase::Back(value) => write_answer(self.state.store.cells.as_slice(), value, out),
+            Phase::Back(value) => {
+                let cells = Cells {
+                    cells: self.state.store.cells.as_slice(),
+                };
+                Answer { cells, value }.write(out)
+            }
             Phase::Eval { .. } => unreachable(),
         }
     }

@@ -1,11 +1,11 @@
 // Evaluating a term of the program.
-ghost use Rattle.std.specs.Prelude.{◌≡◌, ◌+◌, ◌<◌, ◌≤◌, true, length, vec_len, vec_capacity};
+ghost use Rattle.std.specs.Prelude.{◌≡◌, ◌+◌, ◌<◌, ◌≤◌, true, length};
 ghost use Rattle.calculus.specs.Step.{Works as Showing};
 ghost use Rattle.calculus.specs.Machine.{value_there};
 ghost use Rattle.calculus.specs.Tables.{entry};
 ghost use Rattle.calculus.specs.Limits.{lacking, no_place};
 ghost use Rattle.machine.specs.Meaning.{sites_of, state_of};
-ghost use Rattle.machine.specs.Sound.{StateIn, TaskIn, EnvironmentIn, ContinuationIn, BoundIn, ValueIn, PhaseIn};
+ghost use Rattle.machine.specs.Sound.{EnvironmentIn, PhaseIn, WorkIn};
 ghost use Rattle.machine.specs.Answers.{Goes, Ends, Lands, answered, is_some, going, resuming, leaving, valued, gauged, shown, scope, row_stepped, evaluated};
 
 use crate::parts::*;
@@ -16,18 +16,16 @@ use syntax::program::Term;
 impl State {
     // Goes on with a continuation and a phase.
     pub(crate) fn go_on(&mut self, next: Continuation, phase: Phase)
-        requires state { StateIn self.old }
-        requires next { ContinuationIn (length self.old.store.frames.items) next }
-        requires phase { PhaseIn self.old.store.cells.items (length self.old.store.cells.items) phase }
+        requires { WorkIn self.old.store phase next }
         ensures { (v : Showing) → Goes self.old self.new v (going v self.old next phase) }
     {
         self.continuation = next;
         self.phase = phase;
     }
 
-    // Stands at a site again with a continuation that it keeps.
+    // Stands at a site again with a continuation that it keeps. A site and the number of what it keeps or published go together in tables and
+    // calls, as two fields: the tables spell them side by side, and a struct of both would have no method.
     pub(crate) fn resume(&mut self, site: u16, kept: u16, phase: Phase)
-        requires state { StateIn self.old }
         requires phase { PhaseIn self.old.store.cells.items (length self.old.store.cells.items) phase }
         requires found { is_some (entry (sites_of self.old).kept site kept) ≡ true }
         ensures { (v : Showing) → Goes self.old self.new v (resuming v self.old site kept phase) }
@@ -44,13 +42,12 @@ impl State {
 
     // Goes back with the value that is bound under a count, or that this site published under a label.
     pub(crate) fn value(&mut self, environment: Environment, count: u16)
-        requires state { StateIn self.old }
         requires environment { EnvironmentIn (length self.old.store.cells.items) environment }
         requires live { (v : Showing) → Lands self.old.stations (valued v self.old (value_there (scope self.old environment) count)) }
         ensures { (v : Showing) → Goes self.old self.new v (answered (valued v self.old (value_there (scope self.old environment) count)) (lacking no_place (state_of self.old))) }
     {
         let next = self.continuation;
-        let Some(bound) = self.store.bound_at(environment, Kind::Value, count) else {
+        let Some(bound) = self.bound_at(environment, Kind::Value, count) else {
             unreachable()
         };
         match bound {
@@ -66,7 +63,6 @@ impl State {
 
     // Evaluates a part at another site, from where nothing comes back.
     pub(crate) fn leave(&mut self, site: u16, part: u16, environment: Environment)
-        requires state { StateIn self.old }
         requires within { site < self.old.stations }
         requires environment { EnvironmentIn (length self.old.store.cells.items) environment }
         ensures { (v : Showing) → Goes self.old self.new v (leaving v self.old site part environment) }
@@ -81,7 +77,6 @@ impl State {
 
     // Goes back with the number that a gauge here shows.
     pub(crate) fn gauge<W: Works>(&mut self, number: u16, works: &W) -> Result<(), StepFault>
-        requires state { StateIn self.old }
         requires live { Lands self.old.stations (gauged (shown (W.Gauges.readings works.now) (W.Works.settings works.now)) self.old number) }
         ensures { Ends result self.old self.new (shown (W.Gauges.readings works.now) (W.Works.settings works.now)) (shown (W.Gauges.readings works.now) (W.Works.settings works.now)) (answered (gauged (shown (W.Gauges.readings works.now) (W.Works.settings works.now)) self.old number) (lacking no_place (state_of self.old))) }
     {
@@ -98,8 +93,7 @@ impl State {
         environment: Environment,
         works: &W,
     ) -> Result<(), StepFault>
-        requires state { StateIn self.old }
-        requires environment { EnvironmentIn (length self.old.store.cells.items) environment }
+        requires work { WorkIn self.old.store (Phase.Eval term environment) self.old.continuation }
         requires live { Lands self.old.stations (row_stepped (shown (W.Gauges.readings works.now) (W.Works.settings works.now)) self.old term environment row) }
         ensures { Ends result self.old self.new (shown (W.Gauges.readings works.now) (W.Works.settings works.now)) (shown (W.Gauges.readings works.now) (W.Works.settings works.now)) (evaluated (shown (W.Gauges.readings works.now) (W.Works.settings works.now)) self.old term environment row) }
     {
@@ -130,7 +124,7 @@ impl State {
                 environment,
             ),
             Term::Get { world, part, .. } => {
-                let site = self.store.site_of(environment, world);
+                let site = self.site_of(environment, world);
                 return self.get(site, part, environment);
             }
             Term::Pair { left, right } => return self.push(
@@ -147,7 +141,7 @@ impl State {
                 part,
                 ..
             } => {
-                let (site, kept) = self.store.kept_of(environment, continuation);
+                let (site, kept) = self.kept_of(environment, continuation);
                 self.resume(
                     site,
                     kept,
@@ -158,7 +152,7 @@ impl State {
                 );
             }
             Term::Go { world, part, .. } => {
-                let site = self.store.site_of(environment, world);
+                let site = self.site_of(environment, world);
                 self.leave(site, part, environment);
             }
             Term::Gauge(number) => return self.gauge(number, works),

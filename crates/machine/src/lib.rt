@@ -1,12 +1,10 @@
 // The machine that runs a program: a place for it, starting, running, standing and answering.
-#![tactic(auto)]
+#![tactic(auto, using(lines::proofs::Pieces::then))]
 
 mod back;
 pub mod calls;
 mod evaluate;
 mod lookups;
-mod machine;
-mod marked_run;
 mod marking;
 mod marks;
 mod parts;

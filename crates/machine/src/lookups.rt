@@ -2,9 +2,9 @@
 ghost use Rattle.std.specs.Prelude.{◌≡◌, ℕ, ◌+◌, ◌<◌, ◌≤◌, true, length};
 ghost use Rattle.std.proofs.Math.Option.{some};
 ghost use Rattle.calculus.specs.Machine.{site_given, continuation_there};
-ghost use Rattle.machine.specs.Answers.{is_some};
-ghost use Rattle.machine.specs.Meaning.{meanings, environment_of};
-ghost use Rattle.machine.specs.Sound.{Each, CellIn, EnvironmentIn, BoundIn};
+ghost use Rattle.machine.specs.Answers.{is_some, scope};
+ghost use Rattle.machine.specs.Meaning.{cells_of};
+ghost use Rattle.machine.specs.Sound.{EnvironmentIn};
 ghost use Rattle.machine.specs.Store.{reads};
 ghost use Rattle.machine.specs.Lookups.{counted, passing, sought, as_found, Within};
 
@@ -12,7 +12,7 @@ use crate::parts::*;
 use syntax::program::World;
 
 impl Bound {
-    // Whether counts of that kind count this binding.
+    // Whether counts of that kind count this binding: a table of two kinds, and no `==`, since a label is counted as a value is.
     fn counts(self, kind: Kind) -> bool
         ensures { result ≡ counted kind self }
     {
@@ -35,18 +35,17 @@ impl Bound {
     }
 }
 
-impl Store {
+impl State {
     // The binding of that kind under a count, if there is one.
     pub(crate) fn bound_at(&self, environment: Environment, kind: Kind, count: u16) -> Option<Bound>
-        requires cells { Each (λ i c. CellIn self.now.cells.items i c) self.now.cells.items }
-        requires environment { EnvironmentIn (length self.now.cells.items) environment }
-        ensures within { Within self.now.cells.items result }
-        ensures found { sought kind (environment_of (meanings self.now.cells.items) environment) count ≡ as_found kind (meanings self.now.cells.items) result }
+        requires { EnvironmentIn (length self.now.store.cells.items) environment }
+        ensures within { Within self.now.store.cells.items result }
+        ensures found { sought kind (scope self.now environment) count ≡ as_found kind (cells_of self.now) result }
     {
         let mut at = environment;
         let mut left = count;
         while let Environment::Cell(place) = at {
-            let Cell::Binding { bound, rest } = self.cell(place) else {
+            let Cell::Binding { bound, rest } = self.store.cell(place) else {
                 return None;
             };
             let Some(fewer) = bound.pass(kind, left) else {
@@ -60,10 +59,9 @@ impl Store {
 
     // The site of a world that is bound.
     pub(crate) fn site_of(&self, environment: Environment, world: World) -> u16
-        requires cells { Each (λ i c. CellIn self.now.cells.items i c) self.now.cells.items }
-        requires environment { EnvironmentIn (length self.now.cells.items) environment }
-        requires bound { is_some (site_given (environment_of (meanings self.now.cells.items) environment) world) ≡ true }
-        ensures { site_given (environment_of (meanings self.now.cells.items) environment) world ≡ some result }
+        requires environment { EnvironmentIn (length self.now.store.cells.items) environment }
+        requires bound { is_some (site_given (scope self.now environment) world) ≡ true }
+        ensures { site_given (scope self.now environment) world ≡ some result }
     {
         match world {
             World::Site(site) => site,
@@ -81,10 +79,9 @@ impl Store {
 
     // The site and the number of a continuation that is bound.
     pub(crate) fn kept_of(&self, environment: Environment, count: u16) -> (u16, u16)
-        requires cells { Each (λ i c. CellIn self.now.cells.items i c) self.now.cells.items }
-        requires environment { EnvironmentIn (length self.now.cells.items) environment }
-        requires bound { is_some (continuation_there (environment_of (meanings self.now.cells.items) environment) count) ≡ true }
-        ensures { continuation_there (environment_of (meanings self.now.cells.items) environment) count ≡ some (result.0, result.1) }
+        requires environment { EnvironmentIn (length self.now.store.cells.items) environment }
+        requires bound { is_some (continuation_there (scope self.now environment) count) ≡ true }
+        ensures { continuation_there (scope self.now environment) count ≡ some (result.0, result.1) }
     {
         let Some(bound) = self.bound_at(environment, Kind::Continuation, count) else {
             unreachable()

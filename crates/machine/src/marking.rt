@@ -1,16 +1,14 @@
 // Steps that mark the register that they read or set.
-ghost use Rattle.std.specs.Prelude.{◌≡◌, ◌<◌, length};
+ghost use Rattle.std.specs.Prelude.{◌≡◌, ◌<◌};
 ghost use Rattle.calculus.specs.Step.{Works as Showing};
 ghost use Rattle.calculus.specs.Machine.{step as machine_step};
 ghost use Rattle.machine.specs.Meaning.{state_of};
-ghost use Rattle.machine.specs.Sound.{StateIn};
 ghost use Rattle.machine.specs.Answers.{Ends, Lands, stepped_on, shown, of_terms};
-ghost use Rattle.machine.specs.Marks.{bits_of};
 ghost use Rattle.machine.specs.Touching.{StepMarks, gauge_read, gate_set, of_kind, with_touched, TouchedFits, Touches};
 ghost use Rattle.lines.specs.declared.refusal.Instrument.TheVariants.{Gauge as a_gauge, Gate as a_gate};
 
 use crate::back::row_at;
-use crate::marks::mark;
+use crate::marks::Marks;
 use crate::parts::*;
 use instruments::works::Works;
 use syntax::program::Term;
@@ -22,7 +20,7 @@ struct Touched {
     number: u16,
 }
 
-// The gauge that a row reads.
+// The gauge that a row reads; below, the gate that a task sets: two enums are looked at, so there are two functions.
 fn gauge_of(row: Term) -> Option<Touched>
     ensures { result ≡ of_kind a_gauge (gauge_read row) }
 {
@@ -51,21 +49,19 @@ fn gate_of(task: Task) -> Option<Touched>
 }
 
 // Marks a register of a site, if there is one.
-fn mark_touched(marks: &mut [u8], touched: Option<Touched>, site: u16)
-    requires whole { length marks.old ≡ 128 }
+fn mark_touched(marks: &mut Marks, touched: Option<Touched>, site: u16)
     requires site { site < 16 }
     requires fits { TouchedFits touched }
-    ensures { bits_of marks.new ≡ with_touched touched site (bits_of marks.old) }
+    ensures { marks.new ≡ with_touched touched site marks.old }
 {
     if let Some(Touched { instrument, number }) = touched {
-        mark(marks, instrument, site, number);
+        marks.mark(instrument, site, number);
     }
 }
 
 impl State {
     // The register that the next step reads or sets, at the site where work stands.
     fn touched(&self, program: &[Term]) -> Option<Touched>
-        requires state { StateIn self.now }
         requires live { (v : Showing) × Lands self.now.stations (machine_step (of_terms program.now) v (state_of self.now)) }
         ensures { Touches (of_terms program.now) self.now result }
     {
@@ -83,13 +79,11 @@ impl State {
         &mut self,
         program: &[Term],
         works: &mut W,
-        marks: &mut [u8],
+        marks: &mut Marks,
     ) -> Result<(), StepFault>
-        requires state { StateIn self.old }
-        requires whole { length marks.old ≡ 128 }
         requires live { Lands self.old.stations (machine_step (of_terms program.now) (shown (W.Gauges.readings works.old) (W.Works.settings works.old)) (state_of self.old)) }
         ensures ends { Ends result self.old self.new (shown (W.Gauges.readings works.old) (W.Works.settings works.old)) (shown (W.Gauges.readings works.new) (W.Works.settings works.new)) (stepped_on (shown (W.Gauges.readings works.old) (W.Works.settings works.old)) self.old (of_terms program.now)) }
-        ensures marks { StepMarks result (machine_step (of_terms program.now) (shown (W.Gauges.readings works.old) (W.Works.settings works.old)) (state_of self.old)) (bits_of marks.old) (bits_of marks.new) }
+        ensures marks { StepMarks result (machine_step (of_terms program.now) (shown (W.Gauges.readings works.old) (W.Works.settings works.old)) (state_of self.old)) marks.old marks.new }
     {
         let site = self.site;
         let touched = self.touched(program);

@@ -11,13 +11,12 @@ use instruments::works::{Gauges, Works};
 pub(crate) fn read_gauge<W: Works>(works: &W, site: u16, number: u16) -> Result<u16, Unanswered>
     ensures { result ≡ unanswered a_gauge (asked (W.Gauges.readings works.now) site number) }
 {
-    match works.gauge(site as usize, number as usize) {
-        Ok(reading) => Ok(reading),
-        Err(fault) => Err(Unanswered {
+    works
+        .gauge(site as usize, number as usize)
+        .map_err(|fault| Unanswered {
             instrument: Instrument::Gauge,
             fault,
-        }),
-    }
+        })
 }
 
 // Sets a gate.
@@ -31,11 +30,10 @@ pub(crate) fn set_gate<W: Works>(
     ensures after { W.Works.settings works.new ≡ set_after (W.Works.settings works.old) site number value }
     ensures same { W.Gauges.readings works.new ≡ W.Gauges.readings works.old }
 {
-    match works.set_gate(site as usize, number as usize, value) {
-        Ok(()) => Ok(()),
-        Err(fault) => Err(Unanswered {
+    works
+        .set_gate(site as usize, number as usize, value)
+        .map_err(|fault| Unanswered {
             instrument: Instrument::Gate,
             fault,
-        }),
-    }
+        })
 }

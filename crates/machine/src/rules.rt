@@ -1,11 +1,12 @@
-// The ways to go on, by the places that they take. Each tests all the room that it needs first, and then takes it.
-ghost use Rattle.std.specs.Prelude.{◌≡◌, ◌+◌, ◌<◌, ◌≤◌, length, vec_len, vec_capacity};
+// The ways to go on, by the places that they take. Where a table is full, nothing is taken of any.
+ghost use Rattle.std.specs.Prelude.{◌≡◌, ◌+◌, ◌<◌, ◌≤◌, length};
 ghost use Rattle.calculus.specs.Step.{Works};
-ghost use Rattle.machine.specs.Sound.{StateIn, TaskIn, EnvironmentIn, ContinuationIn, BoundIn, ValueIn};
+ghost use Rattle.machine.specs.Sound.{TaskIn, EnvironmentIn, BoundIn, ValueIn, WorkIn};
 ghost use Rattle.machine.specs.Answers.{Ends, pushing, binding, opening, joining, publishing, getting, catching};
 
 use crate::parts::*;
 
+#[tactic(auto, using(crate::proofs::Sound::store_sound))]
 impl State {
     // Pushes a frame over `next`, and evaluates a part.
     pub(crate) fn push(
@@ -15,14 +16,11 @@ impl State {
         part: u16,
         environment: Environment,
     ) -> Result<(), StepFault>
-        requires state { StateIn self.old }
         requires task { TaskIn self.old.store.cells.items (length self.old.store.cells.items) task }
-        requires next { ContinuationIn (length self.old.store.frames.items) next }
-        requires environment { EnvironmentIn (length self.old.store.cells.items) environment }
+        requires work { WorkIn self.old.store (Phase.Eval part environment) next }
         ensures { (v : Works) → Ends result self.old self.new v v (pushing v self.old task next part environment) }
     {
-        self.store.frame_room()?;
-        self.continuation = self.store.push_frame(Frame { task, next });
+        self.continuation = self.store.push_frame(Frame { task, next })?;
         self.phase = Phase::Eval {
             term: part,
             environment,
@@ -38,10 +36,8 @@ impl State {
         next: Continuation,
         part: u16,
     ) -> Result<(), StepFault>
-        requires state { StateIn self.old }
         requires bound { BoundIn self.old.store.cells.items (length self.old.store.cells.items) bound }
-        requires rest { EnvironmentIn (length self.old.store.cells.items) rest }
-        requires next { ContinuationIn (length self.old.store.frames.items) next }
+        requires work { WorkIn self.old.store (Phase.Eval part rest) next }
         ensures { (v : Works) → Ends result self.old self.new v v (binding v self.old bound rest next part) }
     {
         self.store.binding_room(1)?;
@@ -63,9 +59,7 @@ impl State {
         next: Continuation,
         part: u16,
     ) -> Result<(), StepFault>
-        requires state { StateIn self.old }
-        requires rest { EnvironmentIn (length self.old.store.cells.items) rest }
-        requires next { ContinuationIn (length self.old.store.frames.items) next }
+        requires work { WorkIn self.old.store (Phase.Eval part rest) next }
         ensures { (v : Works) → Ends result self.old self.new v v (opening v self.old site label rest next part) }
     {
         self.store.binding_room(2)?;
@@ -86,10 +80,8 @@ impl State {
         right: Value,
         next: Continuation,
     ) -> Result<(), StepFault>
-        requires state { StateIn self.old }
         requires left { ValueIn self.old.store.cells.items (length self.old.store.cells.items) left }
-        requires right { ValueIn self.old.store.cells.items (length self.old.store.cells.items) right }
-        requires next { ContinuationIn (length self.old.store.frames.items) next }
+        requires work { WorkIn self.old.store (Phase.Back right) next }
         ensures { (v : Works) → Ends result self.old self.new v v (joining v self.old left right next) }
     {
         self.store.pair_room()?;
@@ -101,14 +93,11 @@ impl State {
 
     // Publishes a value here, and goes back with its address over `next`.
     pub(crate) fn publish(&mut self, value: Value, next: Continuation) -> Result<(), StepFault>
-        requires state { StateIn self.old }
-        requires value { ValueIn self.old.store.cells.items (length self.old.store.cells.items) value }
-        requires next { ContinuationIn (length self.old.store.frames.items) next }
+        requires work { WorkIn self.old.store (Phase.Back value) next }
         ensures { (v : Works) → Ends result self.old self.new v v (publishing v self.old value next) }
     {
         let site = self.site;
-        self.store.published_room(site)?;
-        let label = self.store.publish(site, value);
+        let label = self.store.publish(site, value)?;
         self.continuation = next;
         self.phase = Phase::Back(Value::Address { site, label });
         Ok(())
@@ -121,15 +110,13 @@ impl State {
         part: u16,
         environment: Environment,
     ) -> Result<(), StepFault>
-        requires state { StateIn self.old }
         requires within { site < self.old.stations }
         requires environment { EnvironmentIn (length self.old.store.cells.items) environment }
         ensures { (v : Works) → Ends result self.old self.new v v (getting v self.old site part environment) }
     {
         let here = self.site;
         let continuation = self.continuation;
-        self.store.kept_room(here)?;
-        let kept = self.store.keep(here, continuation);
+        let kept = self.store.keep(here, continuation)?;
         self.site = site;
         self.continuation = Continuation::Return { site: here, kept };
         self.phase = Phase::Eval {
@@ -141,15 +128,13 @@ impl State {
 
     // Keeps the continuation here and binds it, and evaluates a part.
     pub(crate) fn catch(&mut self, part: u16, rest: Environment) -> Result<(), StepFault>
-        requires state { StateIn self.old }
         requires rest { EnvironmentIn (length self.old.store.cells.items) rest }
         ensures { (v : Works) → Ends result self.old self.new v v (catching v self.old part rest) }
     {
         let site = self.site;
         let continuation = self.continuation;
         self.store.binding_room(1)?;
-        self.store.kept_room(site)?;
-        let kept = self.store.keep(site, continuation);
+        let kept = self.store.keep(site, continuation)?;
         let environment = self.store.bind(Bound::Continuation { site, kept }, rest);
         self.phase = Phase::Eval {
             term: part,

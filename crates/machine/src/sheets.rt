@@ -22,15 +22,14 @@ fn same_station<W: Works>(works: &W, site: usize, station: Station) -> bool
 pub(crate) fn differing_site<W: Works>(sheet: &Sheet, works: &W) -> Option<usize>
     ensures { reads result ≡ differing (stations_of sheet.now) (sheet_of (shown (W.Gauges.readings works.now) (W.Works.settings works.now))) }
 {
-    let mut site = 0;
-    while let Some(station) = sheet.get(site) {
-        if !same_station(works, site, station) {
+    let stations = sheet.stations();
+    for (site, station) in stations.iter().enumerate() {
+        if !same_station(works, site, *station) {
             return Some(site);
         }
-        site += 1;
     }
-    if site < works.sites() {
-        Some(site)
+    if stations.len() < works.sites() {
+        Some(stations.len())
     } else {
         None
     }

@@ -1,16 +1,15 @@
 // Where a machine stands, and the line that says so.
-ghost use Rattle.std.specs.Prelude.{◌≡◌, ◌≤◌, [], length};
-ghost use Rattle.lines.specs.Writing.{Writes, written, written_after};
+ghost use Rattle.std.specs.Prelude.{◌≡◌, ◌≤◌, []};
+ghost use Rattle.lines.specs.Writing.{written, written_after};
 ghost use Rattle.calculus.specs.Run.{stand_of};
 ghost use Rattle.machine.specs.Meaning.{state_of};
-ghost use Rattle.machine.specs.Sound.{StateIn};
-ghost use Rattle.machine.specs.Marks.{bits_of};
 ghost use Rattle.machine.specs.StandLine.{kept_places, published_places, work_of, stand_with, stand_told, phase_text, stand_line};
 
-use crate::marks::ones;
+use crate::marks::Marks;
 use crate::parts::*;
 use lines::pen::Pen;
 use lines::refusal::{Refusal, Short};
+use lines::writing::Printed;
 
 // What a machine is doing.
 #[derive(Clone, Copy)]
@@ -38,45 +37,40 @@ fn places_in(rows: &[SiteRow]) -> (usize, usize)
     ensures kept { result.0 ≡ kept_places rows.now }
     ensures published { result.1 ≡ published_places rows.now }
 {
-    let mut continuations = 0;
-    let mut values = 0;
-    for row in rows {
-        continuations += row.kept.len();
-        values += row.published.len();
-    }
+    let continuations = rows.iter().map(|row| row.kept.len()).sum();
+    let values = rows.iter().map(|row| row.published.len()).sum();
     (continuations, values)
 }
 
 impl Work {
-    fn put(self, pen: &mut Pen, out: &mut [u8]) -> Result<(), Short>
-        ensures { Writes pen.old out.old (phase_text (work_of self)) result pen.new out.new }
+    fn word(self) -> &'static [u8]
+        ensures { result.now ≡ phase_text (work_of self) }
     {
         match self {
-            Work::Evaluating => pen.word(out, b"eval"),
-            Work::Returning => pen.word(out, b"back"),
-            Work::Finished => pen.word(out, b"done"),
+            Work::Evaluating => b"eval",
+            Work::Returning => b"back",
+            Work::Finished => b"done",
         }
     }
 }
 
-impl Stand {
-    fn put(self, pen: &mut Pen, out: &mut [u8]) -> Result<(), Short>
-        ensures { Writes pen.old out.old (stand_line (stand_told self)) result pen.new out.new }
-    {
-        pen.numbered(out, b"(stand ", self.site as usize)?;
-        pen.word(out, b" ")?;
-        self.work.put(pen, out)?;
-        pen.numbered(out, b" ", self.frames)?;
-        pen.numbered(out, b" ", self.kept)?;
-        pen.numbered(out, b" ", self.published)?;
-        pen.numbered(out, b" ", self.touched as usize)?;
-        pen.word(out, b")\n")
+impl Printed for Stand {
+    ghost text = { λ s. stand_line (stand_told s) };
+
+    fn put(&self, pen: &mut Pen<'_>) -> Result<(), Short> {
+        pen.numbered(b"(stand ", self.site as usize)?;
+        pen.word(b" ")?;
+        pen.word(self.work.word())?;
+        pen.numbered(b" ", self.frames)?;
+        pen.numbered(b" ", self.kept)?;
+        pen.numbered(b" ", self.published)?;
+        pen.numbered(b" ", self.touched as usize)?;
+        pen.word(b")\n")
     }
 }
 
 impl State {
     fn work_shown(&self) -> Work
-        requires { StateIn self.now }
         ensures { work_of result ≡ (stand_of (state_of self.now) []).phase }
     {
         match self.phase {
@@ -92,10 +86,8 @@ impl State {
     }
 
     // Where the machine stands.
-    fn stand(&self, marks: &[u8]) -> Stand
-        requires state { StateIn self.now }
-        requires marks { length marks.now ≡ 128 }
-        ensures { stand_told result ≡ stand_with (state_of self.now) (bits_of marks.now) }
+    fn stand(&self, marks: &Marks) -> Stand
+        ensures { stand_told result ≡ stand_with (state_of self.now) marks.now }
     {
         let rows = &self.store.rows[..];
         let (kept, published) = places_in(&rows[0..self.stations as usize]);
@@ -105,24 +97,16 @@ impl State {
             frames: self.store.frames.len(),
             kept,
             published,
-            touched: ones(marks),
+            touched: marks.count(),
         }
     }
 
     // Writes the line that says where the machine stands into a buffer, and answers its length. A buffer that is too short stays as
     // it is.
-    pub(crate) fn write_stand(&self, marks: &[u8], out: &mut [u8]) -> Result<usize, Refusal>
-        requires state { StateIn self.now }
-        requires marks { length marks.now ≡ 128 }
-        ensures value { result ≡ written (stand_line (stand_with (state_of self.now) (bits_of marks.now))) out.old }
-        ensures after { out.new ≡ written_after (stand_line (stand_with (state_of self.now) (bits_of marks.now))) out.old }
+    pub(crate) fn write_stand(&self, marks: &Marks, out: &mut [u8]) -> Result<usize, Refusal>
+        ensures value { result ≡ written (stand_line (stand_with (state_of self.now) marks.now)) out.old }
+        ensures after { out.new ≡ written_after (stand_line (stand_with (state_of self.now) marks.now)) out.old }
     {
-        let stand = self.stand(marks);
-        let mut nothing = [0u8; 0];
-        let mut measure = Pen::new(out.len());
-        stand.put(&mut measure, &mut nothing)?;
-        let mut pen = Pen::new(out.len());
-        stand.put(&mut pen, out)?;
-        Ok(pen.at)
+        self.stand(marks).write(out)
     }
 }

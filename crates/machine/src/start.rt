@@ -1,31 +1,26 @@
 // Empty tables, with all their memory taken at once.
-ghost use Rattle.std.specs.Prelude.{◌≡◌, ◌<◌, ◌≤◌, List, [], length, IfOk, vec_len, vec_capacity};
+ghost use Rattle.std.specs.Prelude.{◌≡◌, ◌<◌, ◌≤◌, length, IfOk};
 ghost use Rattle.calculus.specs.Program.{Program};
 ghost use Rattle.calculus.specs.Machine.{started as machine_started};
 ghost use Rattle.machine.specs.Meaning.{state_of};
-ghost use Rattle.machine.specs.Sound.{Each, StoreIn, StateIn};
-ghost use Rattle.machine.specs.Start.{RowRoom, NewRow, NewStore};
+ghost use Rattle.machine.specs.Sound.{Each};
+ghost use Rattle.machine.specs.Start.{NewRow, NewStore};
 
 use crate::parts::*;
-use crate::store::{FRAMES, KEPT, PUBLISHED};
+use rows::Rows;
 use std::alloc::{AllocError, Global};
-
-pub(crate) const CELLS: usize = 6144;
 
 impl SiteRow {
     pub(crate) fn new(heap: Global) -> Result<SiteRow, AllocError>
         ensures { IfOk result NewRow }
     {
-        let published = Vec::with_capacity(heap, PUBLISHED)?;
-        let kept = Vec::with_capacity(heap, KEPT)?;
+        let published = Rows::new(heap)?;
+        let kept = Rows::new(heap)?;
         Ok(SiteRow { published, kept })
     }
-}
 
-impl SiteRow {
     // Gives back all places of a site.
     fn clear(&mut self)
-        requires { RowRoom self.old }
         ensures { NewRow self.new }
     {
         self.published.clear();
@@ -36,19 +31,18 @@ impl SiteRow {
 // Gives back all places of all sites.
 fn clear_rows(rows: &mut [SiteRow; 16])
     requires sixteen { length rows.old ≡ 16 }
-    requires room { Each (λ _ r. RowRoom r) rows.old }
     ensures sixteen { length rows.new ≡ 16 }
     ensures clear { Each (λ _ r. NewRow r) rows.new }
 {
-    for site in 0..rows.len() {
-        rows[site].clear();
+    for row in rows.iter_mut() {
+        row.clear();
     }
 }
 
 impl Store {
     // Gives back all places; the memory stays reserved.
     fn clear(&mut self)
-        requires { StoreIn self.old }
+        requires { length self.old.rows ≡ 16 }
         ensures { NewStore self.new }
     {
         self.cells.clear();
@@ -61,26 +55,9 @@ impl Store {
     pub(crate) fn new(heap: Global) -> Result<Store, AllocError>
         ensures { IfOk result NewStore }
     {
-        let cells = Vec::with_capacity(heap, CELLS)?;
-        let frames = Vec::with_capacity(heap, FRAMES)?;
-        let rows = [
-            SiteRow::new(heap)?,
-            SiteRow::new(heap)?,
-            SiteRow::new(heap)?,
-            SiteRow::new(heap)?,
-            SiteRow::new(heap)?,
-            SiteRow::new(heap)?,
-            SiteRow::new(heap)?,
-            SiteRow::new(heap)?,
-            SiteRow::new(heap)?,
-            SiteRow::new(heap)?,
-            SiteRow::new(heap)?,
-            SiteRow::new(heap)?,
-            SiteRow::new(heap)?,
-            SiteRow::new(heap)?,
-            SiteRow::new(heap)?,
-            SiteRow::new(heap)?,
-        ];
+        let cells = Rows::new(heap)?;
+        let frames = Rows::new(heap)?;
+        let rows = std::array::try_from_fn(|_| SiteRow::new(heap))?;
         Ok(Store {
             cells,
             bindings: 0,
@@ -92,33 +69,24 @@ impl Store {
 }
 
 impl State {
-    // The start of a program over so many sites: at its site, evaluating term 0 over the end, with no place taken.
-    pub(crate) fn started(store: Store, stations: u16, start: u16) -> State
-        requires store { NewStore store }
-        requires few { stations ≤ 16 }
-        requires within { start < stations }
-        ensures state { StateIn result }
-        ensures stations { result.stations ≡ stations }
-        ensures means { (P : Program) → length P.sheet ≡ stations → P.start ≡ start → state_of result ≡ machine_started P }
-    {
-        State {
-            stations,
-            site: start,
+    // A state to start programs in, with no place taken.
+    pub(crate) fn new(heap: Global) -> Result<State, AllocError> {
+        Ok(State {
+            stations: 1,
+            site: 0,
             continuation: Continuation::Finish,
             phase: Phase::Eval {
                 term: 0,
                 environment: Environment::Empty,
             },
-            store,
-        }
+            store: Store::new(heap)?,
+        })
     }
 
     // Starts a program over so many sites, in the place of what was there.
     pub(crate) fn restart(&mut self, stations: u16, start: u16)
-        requires state { StateIn self.old }
         requires few { stations ≤ 16 }
         requires within { start < stations }
-        ensures state { StateIn self.new }
         ensures stations { self.new.stations ≡ stations }
         ensures means { (P : Program) → length P.sheet ≡ stations → P.start ≡ start → state_of self.new ≡ machine_started P }
     {

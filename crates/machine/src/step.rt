@@ -2,7 +2,6 @@
 ghost use Rattle.std.specs.Prelude.{◌≡◌};
 ghost use Rattle.calculus.specs.Machine.{step as machine_step, is_finished};
 ghost use Rattle.machine.specs.Meaning.{state_of};
-ghost use Rattle.machine.specs.Sound.{StateIn};
 ghost use Rattle.machine.specs.Answers.{Ends, Lands, stepped_on, shown, of_terms};
 
 use crate::back::row_at;
@@ -13,7 +12,6 @@ use syntax::program::Term;
 impl State {
     // Whether work is back over the end.
     pub(crate) fn is_done(&self) -> bool
-        requires { StateIn self.now }
         ensures { result ≡ is_finished (state_of self.now) }
     {
         match (self.phase, self.continuation) {
@@ -31,7 +29,6 @@ impl State {
         program: &[Term],
         works: &mut W,
     ) -> Result<(), StepFault>
-        requires state { StateIn self.old }
         requires live { Lands self.old.stations (machine_step (of_terms program.now) (shown (W.Gauges.readings works.old) (W.Works.settings works.old)) (state_of self.old)) }
         ensures { Ends result self.old self.new (shown (W.Gauges.readings works.old) (W.Works.settings works.old)) (shown (W.Gauges.readings works.new) (W.Works.settings works.new)) (stepped_on (shown (W.Gauges.readings works.old) (W.Works.settings works.old)) self.old (of_terms program.now)) }
     {

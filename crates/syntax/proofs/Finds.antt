@@ -1,8 +1,11 @@
 -- A word followed byte by byte is a word compared at once.
-use Rattle.std.proofs.Common.{◌≡◌, ℕ, zero, suc, ◌+◌, ◌<◌, ◌≤◌, max, Bool, true, false, cond, eqb, List, [], ◌∷◌, ◌++◌, length, get_or, take, drop, Ok, Err, sym, refl, ap, ◌∙◌, subst, arith}
-use Rattle.std.proofs.lemmas.List.{drop_more, drop_all, take_more, take_all, drop-drop}
-use Rattle.std.proofs.lemmas.Bool.{eq-eqb, ne_eqb, eqb-true, both_ways}
-use Rattle.syntax.specs.Grammar.{Want, wants, spelling, spelled_out, last}
+use Rattle.std.proofs.Common.{◌≡◌, ℕ, zero, suc, ◌+◌, ◌<◌, ◌≤◌, max, Bool, true, false, cond, eqb, List, [], ◌∷◌, ◌++◌, length, get_or, take, drop, Ok, sym, refl, ap, ◌∙◌, subst, arith}
+use Rattle.std.specs.Prelude.{◌==◌, take_while}
+use Rattle.std.specs.List.{zip, prefix_len}
+use Rattle.std.proofs.lemmas.List.Folds.{length-prefix_len}
+use Rattle.std.proofs.lemmas.List.{take_more, drop-drop}
+use Rattle.std.proofs.lemmas.Bool.{eqb-true, both_ways}
+use Rattle.syntax.specs.Grammar.{Want, wants, spelling, spelled_out}
 use Rattle.syntax.specs.Grammar.Want.{word}
 use Rattle.syntax.specs.Reading.{Seen, go, after, spelled, many, opened}
 use Rattle.syntax.specs.Reading.Outcome.{refused}
@@ -15,22 +18,18 @@ use Rattle.syntax.proofs.Steps.{go_cons, moved}
 use Rattle.syntax.proofs.Theory.{in_after, apart_after, far_in}
 use Rattle.syntax.proofs.Rows.{spelt}
 
--- one byte of the comparison
-pub agreed_more : (w s : List ℕ) (n : ℕ) → n < length w → n < length s → get_or w n 0 ≡ get_or s n 0 → agreed (drop n w) (drop n s) ≡ agreed (drop (n + 1) w) (drop (n + 1) s) + 1
-agreed_more w s n h k e = rw (drop_more w n 0 h, drop_more s n 0 k, eq-eqb (get_or s n 0) (get_or w n 0) (sym e))
-
-pub agreed_differ : (w s : List ℕ) (n : ℕ) → n < length w → n < length s → (get_or w n 0 ≡ get_or s n 0 → ⊥) → agreed (drop n w) (drop n s) ≡ 0
-agreed_differ w s n h k e = rw (drop_more w n 0 h, drop_more s n 0 k, ne_eqb (get_or s n 0) (get_or w n 0) (λ q. e (sym q)))
-
-pub agreed_word_ends : (w s : List ℕ) (n : ℕ) → length w ≤ n → agreed (drop n w) (drop n s) ≡ 0
-agreed_word_ends w s n h = rw (drop_all n w h)
+-- the bytes of both, taken while they agree
+pub agreed_taken : (w s : List ℕ) → length (take_while (λ (p : ℕ × ℕ). p.1 == p.0) (zip w s)) ≡ agreed w s
+agreed_taken w s = length-prefix_len _ (zip w s) ∙ many w s
+  where
+    many : (w s : List ℕ) → prefix_len (λ (p : ℕ × ℕ). p.1 == p.0) (zip w s) ≡ agreed w s
+    many [] s = refl
+    many (x ∷ w) [] = refl
+    many (x ∷ w) (y ∷ s) = ap (λ n. cond (y == x) n 0) (let z : 1 + prefix_len (λ (p : ℕ × ℕ). p.1 == p.0) (zip w s) ≡ agreed w s + 1 = omega (arith, many w s) in z)
 
 agreed_nil : (w : List ℕ) → agreed w [] ≡ 0
 agreed_nil [] = refl
 agreed_nil (x ∷ w) = refl
-
-pub agreed_text_ends : (w s : List ℕ) (n : ℕ) → length s ≤ n → agreed (drop n w) (drop n s) ≡ 0
-agreed_text_ends w s n h = rw (drop_all n s h) (agreed_nil (drop n w))
 
 pub agreed_le : (w s : List ℕ) → (agreed w s ≤ length w) × (agreed w s ≤ length s)
 agreed_le [] s = (omega arith, omega arith)
@@ -178,12 +177,6 @@ misses_more fs i n d w bs far far' h q a b v e =
     let g : far' ≡ farthest (spelled_out (take i fs ++ get_or fs i d ∷ [])) bs = omega (arith, farthest_push (take i fs) (get_or fs i d) bs) in
     (rw (take_more fs i d h) m, rw (take_more fs i d h) g, omega arith)
 
--- a form that ends with a bracket begins with one
-pub bracket_first : (f : Form) (bs more : List ℕ) → bs ≡ spelling f ++ more → last f ≡ 41 → get_or bs 0 0 ≡ 40
-bracket_first f bs more e h =
-    let a : get_or bs 0 0 ≡ get_or (spelling f) 0 0 = ap (λ (l : List ℕ). get_or l 0 0) (e ∙ ap (λ (l : List ℕ). l ++ more) (spelt f).0) in
-    a ∙ eqb-true (get_or (spelling f) 0 0) 40 ((spelt f).1 ∙ eq-eqb (last f) 41 h)
-
 module _ (o : Sort) (k : List Want) (s : Seen) (fs : List Form) (text bs : List ℕ) (pos : ℕ) (same : bs ≡ drop pos text) where
   hit_any : (w : List ℕ) (f : Form) (more : List ℕ) → 0 < length w → Clean o s w → Apart (spelled_out fs) → In w f (spelled_out fs) → go (w ++ more) (word o (spelled_out fs) ∷ k) s pos ≡ go more (wants f k) (opened f s) (pos + length w)
   hit_any [] f more h free a m = absurd (omega arith)
@@ -199,7 +192,3 @@ module _ (o : Sort) (k : List Want) (s : Seen) (fs : List Form) (text bs : List 
 
   pub word_missed : (far : ℕ) → Clear o s (spelled_out fs) → Misses (spelled_out fs) bs → far ≡ farthest (spelled_out fs) bs → go (drop pos text) (word o (spelled_out fs) ∷ k) s pos ≡ refused 11 (pos + far)
   word_missed far free h e = ap (λ (x : List ℕ). go x (word o (spelled_out fs) ∷ k) s pos) (sym same) ∙ miss o s k bs (spelled_out fs) pos free h ∙ ap (λ (x : ℕ). refused 11 (pos + x)) (sym e)
-
-pub misses_all : (fs : List Form) (i : ℕ) (bs : List ℕ) (far : ℕ) → length fs ≤ i →
-    (Misses (spelled_out (take i fs)) bs × (far ≡ farthest (spelled_out (take i fs)) bs) × (far ≤ length bs)) → Found fs bs (Err far)
-misses_all fs i bs far h p = rw (take_all i fs h) at p

@@ -1,15 +1,15 @@
 -- What is known of a form that is one of a list.
-use Rattle.std.proofs.Common.{◌≡◌, ℕ, ◌+◌, ◌-◌, false, List, [], ◌∷◌, sym, refl, ap, ◌∙◌, subst, arith}
+use Rattle.std.proofs.Common.{◌≡◌, ℕ, ◌+◌, ◌-◌, false, List, [], ◌∷◌, refl, ap, ◌∙◌, arith}
 use Rattle.syntax.specs.Grammar.{Want, wants, words, forms, spelled_out, spelling}
 use Rattle.syntax.specs.Grammar.Stop.{close}
 use Rattle.syntax.specs.Grammar.Want.{number}
-use Rattle.syntax.specs.Reading.{Seen, Outcome, many, push, passed, opened}
+use Rattle.syntax.specs.Reading.{Seen, Outcome, many}
 use Rattle.syntax.specs.Texts.{In}
 use Rattle.syntax.specs.Texts.In.{here, there}
 use Rattle.syntax.specs.Views.{Clean, Clear, from, longer}
 use Rattle.syntax.specs.declared.reader.Reader.{Reader}
 use Rattle.syntax.specs.declared.grammar.Form.{Form}
-use Rattle.syntax.specs.declared.grammar.Form.TheVariants.{Site, Bound, Num, Val, Boxed, Unbox, Here, Getb, Getd, Getn, Fst, Snd, Gauge}
+use Rattle.syntax.specs.declared.grammar.Form.TheVariants.{Num, Val, Boxed, Unbox, Here, Getb, Getd, Getn, Fst, Snd, Gauge}
 use Rattle.syntax.specs.declared.grammar.Sort.{Sort}
 use Rattle.syntax.specs.declared.grammar.Sort.TheVariants.{Worlds, Terms}
 
@@ -49,12 +49,6 @@ world_open w f m k = in_all (λ (g : Form). wants g k ≡ number false (close g)
 
 pub world_names : (o : Outcome) (c : Reader) (w : List ℕ) (f : Form) (k : List Want) (s : Seen) → In w f (words Worlds) → o ≡ from c (wants f k) s → o ≡ from c (number false (close f) ∷ k) s
 world_names o c w f k s m e = e ∙ ap (λ (ws : List Want). from c ws s) (world_open w f m k)
-
-pub site_shut : (f : Form) (n : ℕ) (s : Seen) → f ≡ Site → passed (close f) (push n (opened f s)) ≡ push 0 (push n s)
-site_shut f n s e = subst (λ (g : Form). passed (close g) (push n (opened g s)) ≡ push 0 (push n s)) (sym e) (rw (back s.depth))
-
-pub bound_shut : (f : Form) (n : ℕ) (s : Seen) → f ≡ Bound → passed (close f) (push n (opened f s)) ≡ push 1 (push n s)
-bound_shut f n s e = subst (λ (g : Form). passed (close g) (push n (opened g s)) ≡ push 1 (push n s)) (sym e) (rw (back s.depth))
 
 -- a term with a world or with fewer than two parts, or one of the longer
 abbrev pub shorter : List Form

@@ -23,9 +23,6 @@ type_more k ts n node f w b h p q r e =
     ∙ ap (λ (x : List ℕ). x ++ (type_inner node (type_text (k - 1) ts) ++ last f ∷ [])) (sym r)
     ∙ ap (λ (x : ℕ). w ++ (type_inner node (type_text (k - 1) ts) ++ x ∷ [])) (sym e)
 
-pub type_end : (k : ℕ) (ts : List Ty) (n : ℕ) → k ≡ 0 → type_text k ts n ≡ []
-type_end k ts n e = ap (λ (x : ℕ). type_text x ts n) e
-
 pub term_more : (k : ℕ) (ts : List Ty) (ms : List Term) (n : ℕ) (node : Term) (f : Form) (w : List ℕ) → (k ≡ 0 → ⊥) → node ≡ nth_term ms n → f ≡ term_form node → w ≡ spelling f →
     term_text k ts ms n ≡ w ++ (term_inner node (type_text (k - 1) ts) (term_text (k - 1) ts ms) ++ codes ")")
 term_more k ts ms n node f w h p q r =
@@ -39,20 +36,13 @@ lines_append : (xs ys : List Station) → station_lines (xs ++ ys) ≡ station_l
 lines_append [] ys = refl
 lines_append (x ∷ xs) ys = ap (λ (l : List ℕ). station_line x ++ l) (lines_append xs ys) ∙ sym (append_assoc (station_line x) (station_lines xs) (station_lines ys))
 
-at_nth : (xs : List Station) (i : ℕ) (x : Station) → i < length xs → slice_get xs i ≡ Some x → get_or xs i x ≡ x
-at_nth xs i x h e = let p = slice_get-get_or xs i x h in cc
-
-pub lines_cut : (xs : List Station) (i : ℕ) (x : Station) → i < length xs → slice_get xs i ≡ Some x → station_lines xs ≡ station_lines (take i xs) ++ (station_line x ++ station_lines (drop (i + 1) xs))
-lines_cut xs i x h e =
+-- the lines before a station, its own, and those behind it
+pub lines_cut : (xs : List Station) (i : ℕ) (d : Station) → i < length xs → station_lines xs ≡ station_lines (take i xs) ++ (station_line (get_or xs i d) ++ station_lines (drop (i + 1) xs))
+lines_cut xs i d h =
     ap station_lines (sym (take-append-drop i xs)) ∙ lines_append (take i xs) (drop i xs)
-    ∙ ap (λ (l : List Station). station_lines (take i xs) ++ station_lines l) (drop_more xs i x h)
-    ∙ ap (λ (y : Station). station_lines (take i xs) ++ (station_line y ++ station_lines (drop (i + 1) xs))) (at_nth xs i x h e)
+    ∙ ap (λ (l : List Station). station_lines (take i xs) ++ station_lines l) (drop_more xs i d h)
 
-pub lines_more : (xs : List Station) (i : ℕ) (x : Station) → i < length xs → slice_get xs i ≡ Some x → station_lines (take (i + 1) xs) ≡ station_lines (take i xs) ++ station_line x
-lines_more xs i x h e =
-    ap station_lines (take_more xs i x h) ∙ lines_append (take i xs) (get_or xs i x ∷ [])
-    ∙ ap (λ (y : Station). station_lines (take i xs) ++ (station_line y ++ [])) (at_nth xs i x h e)
-    ∙ ap (λ (l : List ℕ). station_lines (take i xs) ++ l) (append-nil (station_line x))
-
-pub never_none : (xs : List Station) (i : ℕ) → i < length xs → slice_get xs i ≡ None → ⊥
-never_none xs i h e = let p = slice_get-get_or xs i (record { gauges = 0; gates = 0 }) h in let z : ◌≡◌ {A = ℕ} 0 1 = cc in omega arith
+pub lines_more : (xs : List Station) (i : ℕ) (d : Station) → i < length xs → station_lines (take (i + 1) xs) ≡ station_lines (take i xs) ++ station_line (get_or xs i d)
+lines_more xs i d h =
+    ap station_lines (take_more xs i d h) ∙ lines_append (take i xs) (get_or xs i d ∷ [])
+    ∙ ap (λ (l : List ℕ). station_lines (take i xs) ++ l) (append-nil (station_line (get_or xs i d)))

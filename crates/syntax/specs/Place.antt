@@ -1,11 +1,9 @@
 -- What a place for a text holds.
-use Rattle.std.specs.Prelude.{◌≡◌, ℕ, ◌<◌, ◌≤◌, cond, List, [], ◌∷◌, ◌++◌, length, Some, None, Ok, Err, vec_items, Option, Result, ◌==◌}
+use Rattle.std.specs.Prelude.{ℕ, cond, List, [], Ok, Err, Result, ◌==◌}
 use Rattle.instruments.specs.declared.sheet.Station.{Station}
 use Rattle.instruments.specs.Sheets.{stations_of}
 use Rattle.syntax.specs.declared.program.Ty.{Ty}
-use Rattle.syntax.specs.declared.program.Ty.TheVariants.{Num as TyAsNum}
 use Rattle.syntax.specs.declared.program.Term.{Term}
-use Rattle.syntax.specs.declared.program.Term.TheVariants.{Num as TermAsNum}
 use Rattle.lines.specs.declared.refusal.Refusal.{Refusal}
 use Rattle.lines.specs.declared.refusal.Refusal.TheVariants.{Text as Text·fault}
 use Rattle.lines.specs.declared.refusal.TextFault.{TextFault}
@@ -24,37 +22,15 @@ pub record Tables : Type 0 where
 
 -- what the tables of a program hold
 abbrev pub tables : Program → Tables
-tables p = record { types = vec_items p.types; terms = vec_items p.terms; stations = stations_of p.sheet; start = p.start }
+tables p = record { types = p.types.items; terms = p.terms.items; stations = stations_of p.sheet; start = p.start }
 
 -- tables with nothing in them
 abbrev pub blank : Tables
 blank = record { types = []; terms = []; stations = []; start = 0 }
 
--- the tables with other types
-abbrev pub with_types : Tables → List Ty → Tables
-with_types t l = record { types = l; terms = t.terms; stations = t.stations; start = t.start }
-
--- the tables with other terms
-abbrev pub with_terms : Tables → List Term → Tables
-with_terms t l = record { types = t.types; terms = l; stations = t.stations; start = t.start }
-
 -- the tables with other stations
 abbrev pub with_stations : Tables → List Station → Tables
 with_stations t l = record { types = t.types; terms = t.terms; stations = l; start = t.start }
-
--- the tables with another start
-abbrev pub with_start : Tables → ℕ → Tables
-with_start t n = record { types = t.types; terms = t.terms; stations = t.stations; start = n }
-
--- a type takes the next number, if there is one
-abbrev pub BegunType : Tables → Option ℕ → Tables → Type 0
-BegunType t None u = (512 ≤ length t.types) × (u ≡ t)
-BegunType t (Some n) u = (length t.types < 512) × (n ≡ length t.types) × (u ≡ with_types t (t.types ++ TyAsNum ∷ []))
-
--- a term takes the next number, if there is one
-abbrev pub BegunTerm : Tables → Option ℕ → Tables → Type 0
-BegunTerm t None u = (1024 ≤ length t.terms) × (u ≡ t)
-BegunTerm t (Some n) u = (length t.terms < 1024) × (n ≡ length t.terms) × (u ≡ with_terms t (t.terms ++ TermAsNum 0 ∷ []))
 
 -- a place is empty, or full with a program
 pub data Place : Type 0 where

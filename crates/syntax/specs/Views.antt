@@ -1,5 +1,5 @@
 -- How what the reader holds stands for what the definition of reading has.
-use Rattle.std.specs.Prelude.{◌≡◌, ℕ, ◌+◌, ◌<◌, ◌≤◌, max, Bool, true, false, cond, ◌||◌, List, [], ◌∷◌, ◌++◌, length, drop, Ok, Err, Result, ◌==◌}
+use Rattle.std.specs.Prelude.{◌≡◌, ℕ, ◌+◌, ◌<◌, ◌≤◌, max, Bool, false, cond, ◌||◌, List, [], ◌∷◌, ◌++◌, length, drop, Ok, Err, Result, ◌==◌}
 use Rattle.lines.specs.declared.refusal.TextFault.{TextFault}
 use Rattle.lines.specs.declared.refusal.TextFault.TheVariants.{TooLong, Grammar, TooDeep, TooMany, Sheet}
 use Rattle.syntax.specs.Grammar.{Want, spelling, spelled_out}
@@ -14,7 +14,7 @@ use Rattle.syntax.specs.declared.program.World.TheVariants.{Site, Bound}
 use Rattle.syntax.specs.declared.program.Ty.{Ty}
 use Rattle.syntax.specs.declared.program.Ty.TheVariants.{Num, Never, Fn, Boxed, At, Both}
 use Rattle.syntax.specs.declared.grammar.Form.TheVariants.{TNum, TNone, TFn, TBox, TAt, TBoth}
-use Rattle.syntax.specs.declared.grammar.Form.TheVariants.{Station, Run, Val, Getb, Getd, Getn, Num as FormAsNum, Lam as FormAsLam, App as FormAsApp, Boxed as FormAsBoxed, Unbox as FormAsUnbox, Here as FormAsHere, Letd as FormAsLetd, Pair as FormAsPair, Fst as FormAsFst, Snd as FormAsSnd, Letcc as FormAsLetcc, Throw as FormAsThrow, Go as FormAsGo, Gauge as FormAsGauge, Gate as FormAsGate, Below as FormAsBelow}
+use Rattle.syntax.specs.declared.grammar.Form.TheVariants.{Val, Getb, Getd, Getn, Num as FormAsNum, Lam as FormAsLam, App as FormAsApp, Boxed as FormAsBoxed, Unbox as FormAsUnbox, Here as FormAsHere, Letd as FormAsLetd, Pair as FormAsPair, Fst as FormAsFst, Snd as FormAsSnd, Letcc as FormAsLetcc, Throw as FormAsThrow, Go as FormAsGo, Gauge as FormAsGauge, Gate as FormAsGate, Below as FormAsBelow}
 use Rattle.syntax.specs.declared.program.Mobile.{Mobile}
 use Rattle.syntax.specs.declared.program.Mobile.TheVariants.{Code, Address, Number}
 use Rattle.syntax.specs.declared.program.Term.{Term}
@@ -175,11 +175,6 @@ parts_of_term (Go t w a) = a ∷ kind_of w ∷ count_of w ∷ t ∷ []
 parts_of_term (Gauge n) = n ∷ []
 parts_of_term (Gate n a) = a ∷ n ∷ []
 parts_of_term (Below t a b l o) = o ∷ l ∷ b ∷ a ∷ t ∷ []
-
--- a station's line, or else the run line
-abbrev pub line_form : Bool → Form
-line_form true = Station
-line_form false = Run
 
 -- the forms of terms with two parts or more, where a world is none
 abbrev pub longer : List Form

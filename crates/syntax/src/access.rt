@@ -42,24 +42,14 @@ impl Program {
     pub(crate) fn type_at(&self, number: u16) -> Ty
         ensures { result ≡ type_at (tables self.now).types number }
     {
-        let place = usize::from(number);
-        if place < self.types.len() {
-            self.types[place]
-        } else {
-            Ty::Num
-        }
+        self.types.get(usize::from(number)).unwrap_or(Ty::Num)
     }
 
     // The term with a number; one past the table is the number 0.
     pub(crate) fn term_at(&self, number: u16) -> Term
         ensures { result ≡ nth_term (tables self.now).terms number }
     {
-        let place = usize::from(number);
-        if place < self.terms.len() {
-            self.terms[place]
-        } else {
-            Term::Num(0)
-        }
+        self.terms.get(usize::from(number)).unwrap_or(Term::Num(0))
     }
 }
 

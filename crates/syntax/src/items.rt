@@ -1,10 +1,11 @@
 // Reads types and terms into tables.
-ghost use Rattle.std.specs.Prelude.{◌≡◌, ℕ, ◌<◌, false, List, ◌∷◌, ◌++◌, IfOk};
+ghost use Rattle.std.specs.Prelude.{◌≡◌, ℕ, ◌<◌, ◌≤◌, false, List, [], ◌∷◌, ◌++◌, length, IfOk, nat_le};
 ghost use Rattle.syntax.specs.Grammar.{Want, words, wants, last as last_byte, spelling, spelled_out};
 ghost use Rattle.syntax.specs.Grammar.Stop.{close, space};
 ghost use Rattle.syntax.specs.Grammar.Want.{stop as want_stop, number as want_number, item as want_item};
+ghost use Rattle.syntax.specs.Reading.{Seen, begun, full, opened, push};
 ghost use Rattle.syntax.specs.Texts.{In};
-ghost use Rattle.syntax.specs.Views.{Led, at, inside, type_form, parts_of_type, term_form, parts_of_term, get_form, kind_of, count_of, longer};
+ghost use Rattle.syntax.specs.Views.{Led, Clear, from, at, inside, type_form, parts_of_type, term_form, parts_of_term, get_form, kind_of, count_of, longer};
 ghost use Rattle.syntax.specs.declared.grammar.Form.TheVariants.{Throw, Go, Below};
 ghost use Rattle.syntax.specs.declared.grammar.Sort.TheVariants.{Types, Terms, Worlds};
 
@@ -13,35 +14,45 @@ use crate::program::{Mobile, Term, Ty, World};
 use crate::reader::Reader;
 use crate::table::Program;
 use lines::refusal::TextFault;
+use rows::Rows;
 
+// The draft and the depth are handed on beside the reader: were they its fields, each contract below would also have to say that the
+// reference and the depth are after the call what they were before it.
 impl Reader<'_> {
-    // A type begins: its number, and its form.
-    fn begin_type(&mut self, draft: &mut Program, depth: usize) -> Result<(u16, Form), TextFault>
-        ensures led { (k : List Want) (vs : List ℕ) → Led result (at self.old draft.old (want_item Types ∷ k) vs depth) (λ x. inside self.new draft.new x.1 (wants x.1 k) (x.0 ∷ vs) depth) }
-        ensures picked { IfOk result (λ x. In (spelling x.1) x.1 (words Types) × (last_byte x.1 ≡ 41 → depth < 64)) }
+    // An item of the sort begins, and its row takes the next place of the table: that place, and the item's form.
+    fn begin<T: Drop, const N: usize>(
+        &mut self,
+        rows: &mut Rows<T, N>,
+        row: T,
+        sort: Sort,
+        depth: usize,
+    ) -> Result<(u16, Form), TextFault>
+        requires small { N ≤ 65536 }
+        ensures led { (k : List Want) (s : Seen) → s.depth ≡ depth → Clear sort (begun sort s) (words sort) → full sort s ≡ nat_le N (length rows.old.items) → Led result (from self.old (want_item sort ∷ k) s) (λ x. from self.new (wants x.1 k) (opened x.1 (begun sort s))) }
+        ensures row { IfOk result (λ x. (x.0 ≡ length rows.old.items) × (rows.new.items ≡ rows.old.items ++ row ∷ [])) }
+        ensures picked { IfOk result (λ x. In (spelling x.1) x.1 (words sort) × (last_byte x.1 ≡ 41 → depth < 64)) }
     {
         let place = self.place;
-        self.first(Sort::Types, depth)?;
-        let Some(number) = draft.begin_type() else {
+        self.first(sort, depth)?;
+        let Some(number) = rows.push(row) else {
             return Err(TextFault::TooMany(place));
         };
-        let form = self.word(Sort::Types)?;
-        Ok((number, form))
+        let form = self.word(sort)?;
+        // No cast of the crate cuts anything off, as the check proves: `try_from` would add an arm that no value reaches.
+        Ok((number as u16, form))
     }
 
-    // Two types with a space between.
-    #[cycle(two_types_ty_type_parts)]
-    fn two_types(&mut self, draft: &mut Program, depth: usize) -> Result<(u16, u16), TextFault>
-        ensures { (k : List Want) (vs : List ℕ) → Led result (at self.old draft.old (want_item Types ∷ want_stop space ∷ want_item Types ∷ k) vs depth) (λ x. at self.new draft.new k (x.1 ∷ x.0 ∷ vs) depth) }
+    // A space and a type. One method for types, worlds, numbers and terms would be handed what reads them, a closure over the reader itself.
+    #[cycle(next_type_ty_type_parts)]
+    fn next_type(&mut self, draft: &mut Program, depth: usize) -> Result<u16, TextFault>
+        ensures { (k : List Want) (vs : List ℕ) → Led result (at self.old draft.old (want_stop space ∷ want_item Types ∷ k) vs depth) (λ n. at self.new draft.new k (n ∷ vs) depth) }
     {
-        let left = self.ty(draft, depth)?;
         self.stop(b' ')?;
-        let right = self.ty(draft, depth)?;
-        Ok((left, right))
+        self.ty(draft, depth)
     }
 
     // A type's parts.
-    #[cycle(two_types_ty_type_parts)]
+    #[cycle(next_type_ty_type_parts)]
     fn type_parts(&mut self, draft: &mut Program, form: Form, depth: usize) -> Result<Ty, TextFault>
         requires form { In (spelling form) form (words Types) }
         requires room { last_byte form ≡ 41 → depth < 64 }
@@ -51,166 +62,113 @@ impl Reader<'_> {
         match form {
             Form::TNum => Ok(Ty::Num),
             Form::TNone => Ok(Ty::Never),
-            Form::TFn => {
-                let (from, to) = self.two_types(draft, depth + 1)?;
-                Ok(Ty::Fn { from, to })
-            }
+            Form::TFn => Ok(Ty::Fn {
+                from: self.ty(draft, depth + 1)?,
+                to: self.next_type(draft, depth + 1)?,
+            }),
             Form::TBox => Ok(Ty::Boxed(self.ty(draft, depth + 1)?)),
             Form::TAt => Ok(Ty::At(self.ty(draft, depth + 1)?)),
-            Form::TBoth => {
-                let (left, right) = self.two_types(draft, depth + 1)?;
-                Ok(Ty::Both { left, right })
-            }
+            Form::TBoth => Ok(Ty::Both {
+                left: self.ty(draft, depth + 1)?,
+                right: self.next_type(draft, depth + 1)?,
+            }),
             _ => unreachable(),
         }
     }
 
     // A type.
-    #[cycle(two_types_ty_type_parts)]
+    #[cycle(next_type_ty_type_parts)]
     fn ty(&mut self, draft: &mut Program, depth: usize) -> Result<u16, TextFault>
         ensures { (k : List Want) (vs : List ℕ) → Led result (at self.old draft.old (want_item Types ∷ k) vs depth) (λ n. at self.new draft.new k (n ∷ vs) depth) }
     {
-        let (number, form) = self.begin_type(draft, depth)?;
+        let (number, form) = self.begin(&mut draft.types, Ty::Num, Sort::Types, depth)?;
         let node = self.type_parts(draft, form, depth)?;
         self.stop(form.last())?;
-        draft.settle_type(number, node);
+        draft.types.set(usize::from(number), node);
         Ok(number)
     }
 
-    // A term begins: its number, and its form.
-    fn begin_term(&mut self, draft: &mut Program, depth: usize) -> Result<(u16, Form), TextFault>
-        ensures led { (k : List Want) (vs : List ℕ) → Led result (at self.old draft.old (want_item Terms ∷ k) vs depth) (λ x. inside self.new draft.new x.1 (wants x.1 k) (x.0 ∷ vs) depth) }
-        ensures picked { IfOk result (λ x. In (spelling x.1) x.1 (words Terms) × (last_byte x.1 ≡ 41 → depth < 64)) }
+    // A space and a world.
+    fn next_world(&mut self, depth: usize) -> Result<World, TextFault>
+        ensures { (k : List Want) (s : Seen) → s.depth ≡ depth → Led result (from self.old (want_stop space ∷ want_item Worlds ∷ k) s) (λ w. from self.new k (push (kind_of w) (push (count_of w) s))) }
     {
-        let place = self.place;
-        self.first(Sort::Terms, depth)?;
-        let Some(number) = draft.begin_term() else {
-            return Err(TextFault::TooMany(place));
-        };
-        let form = self.word(Sort::Terms)?;
-        Ok((number, form))
+        self.stop(b' ')?;
+        self.world(depth)
     }
 
-    // Two terms with a space between.
-    #[cycle(below_get_go_more_parts_number_and_term_term_term_parts_throw_two_terms_type_and_term_world_and_term)]
-    fn two_terms(&mut self, draft: &mut Program, depth: usize) -> Result<(u16, u16), TextFault>
-        ensures { (k : List Want) (vs : List ℕ) → Led result (at self.old draft.old (want_item Terms ∷ want_stop space ∷ want_item Terms ∷ k) vs depth) (λ x. at self.new draft.new k (x.1 ∷ x.0 ∷ vs) depth) }
+    // A space and a number, up to the space behind it.
+    fn next_number(&mut self) -> Result<u16, TextFault>
+        ensures { (k : List Want) (s : Seen) → Led result (from self.old (want_stop space ∷ want_number false space ∷ k) s) (λ n. from self.new (want_stop space ∷ k) (push n s)) }
     {
-        let left = self.term(draft, depth)?;
         self.stop(b' ')?;
-        let right = self.term(draft, depth)?;
-        Ok((left, right))
+        self.number(false)
     }
 
-    // A type, a space and a term.
-    #[cycle(below_get_go_more_parts_number_and_term_term_term_parts_throw_two_terms_type_and_term_world_and_term)]
-    fn type_and_term(&mut self, draft: &mut Program, depth: usize) -> Result<(u16, u16), TextFault>
-        ensures { (k : List Want) (vs : List ℕ) → Led result (at self.old draft.old (want_item Types ∷ want_stop space ∷ want_item Terms ∷ k) vs depth) (λ x. at self.new draft.new k (x.1 ∷ x.0 ∷ vs) depth) }
+    // A space and a term.
+    #[cycle(below_get_go_more_parts_next_term_term_term_parts_throw)]
+    pub(crate) fn next_term(&mut self, draft: &mut Program, depth: usize) -> Result<u16, TextFault>
+        ensures { (k : List Want) (vs : List ℕ) → Led result (at self.old draft.old (want_stop space ∷ want_item Terms ∷ k) vs depth) (λ n. at self.new draft.new k (n ∷ vs) depth) }
     {
-        let written = self.ty(draft, depth)?;
         self.stop(b' ')?;
-        let body = self.term(draft, depth)?;
-        Ok((written, body))
-    }
-
-    // A world, a space and a term.
-    #[cycle(below_get_go_more_parts_number_and_term_term_term_parts_throw_two_terms_type_and_term_world_and_term)]
-    fn world_and_term(
-        &mut self,
-        draft: &mut Program,
-        depth: usize,
-    ) -> Result<(World, u16), TextFault>
-        ensures { (k : List Want) (vs : List ℕ) → Led result (at self.old draft.old (want_item Worlds ∷ want_stop space ∷ want_item Terms ∷ k) vs depth) (λ x. at self.new draft.new k (x.1 ∷ kind_of x.0 ∷ count_of x.0 ∷ vs) depth) }
-    {
-        let world = self.world(depth)?;
-        self.stop(b' ')?;
-        let part = self.term(draft, depth)?;
-        Ok((world, part))
-    }
-
-    // A number, a space and a term.
-    #[cycle(below_get_go_more_parts_number_and_term_term_term_parts_throw_two_terms_type_and_term_world_and_term)]
-    pub(crate) fn number_and_term(
-        &mut self,
-        draft: &mut Program,
-        depth: usize,
-    ) -> Result<(u16, u16), TextFault>
-        ensures { (k : List Want) (vs : List ℕ) → Led result (at self.old draft.old (want_number false space ∷ want_item Terms ∷ k) vs depth) (λ x. at self.new draft.new k (x.1 ∷ x.0 ∷ vs) depth) }
-    {
-        let number = self.number(false)?;
-        self.stop(b' ')?;
-        let part = self.term(draft, depth)?;
-        Ok((number, part))
+        self.term(draft, depth)
     }
 
     // The parts of a get.
-    #[cycle(below_get_go_more_parts_number_and_term_term_term_parts_throw_two_terms_type_and_term_world_and_term)]
+    #[cycle(below_get_go_more_parts_next_term_term_term_parts_throw)]
     fn get(&mut self, draft: &mut Program, mobile: Mobile, depth: usize) -> Result<Term, TextFault>
         ensures led { (k : List Want) (vs : List ℕ) → Led result (at self.old draft.old (want_item Worlds ∷ want_stop space ∷ want_item Terms ∷ k) vs depth) (λ t. at self.new draft.new k (parts_of_term t ++ vs) depth) }
         ensures formed { IfOk result (λ t. term_form t ≡ get_form mobile) }
     {
-        let (world, part) = self.world_and_term(draft, depth)?;
         Ok(Term::Get {
             mobile,
-            world,
-            part,
+            world: self.world(depth)?,
+            part: self.next_term(draft, depth)?,
         })
     }
 
     // The parts of a throw.
-    #[cycle(below_get_go_more_parts_number_and_term_term_term_parts_throw_two_terms_type_and_term_world_and_term)]
+    #[cycle(below_get_go_more_parts_next_term_term_term_parts_throw)]
     fn throw(&mut self, draft: &mut Program, depth: usize) -> Result<Term, TextFault>
         ensures led { (k : List Want) (vs : List ℕ) → Led result (at self.old draft.old (want_item Types ∷ want_stop space ∷ want_number false space ∷ want_item Terms ∷ k) vs depth) (λ t. at self.new draft.new k (parts_of_term t ++ vs) depth) }
         ensures formed { IfOk result (λ t. term_form t ≡ Throw) }
     {
-        let written = self.ty(draft, depth)?;
-        self.stop(b' ')?;
-        let (continuation, part) = self.number_and_term(draft, depth)?;
         Ok(Term::Throw {
-            written,
-            continuation,
-            part,
+            written: self.ty(draft, depth)?,
+            continuation: self.next_number()?,
+            part: self.next_term(draft, depth)?,
         })
     }
 
     // The parts of a go.
-    #[cycle(below_get_go_more_parts_number_and_term_term_term_parts_throw_two_terms_type_and_term_world_and_term)]
+    #[cycle(below_get_go_more_parts_next_term_term_term_parts_throw)]
     fn go(&mut self, draft: &mut Program, depth: usize) -> Result<Term, TextFault>
         ensures led { (k : List Want) (vs : List ℕ) → Led result (at self.old draft.old (want_item Types ∷ want_stop space ∷ want_item Worlds ∷ want_stop space ∷ want_item Terms ∷ k) vs depth) (λ t. at self.new draft.new k (parts_of_term t ++ vs) depth) }
         ensures formed { IfOk result (λ t. term_form t ≡ Go) }
     {
-        let written = self.ty(draft, depth)?;
-        self.stop(b' ')?;
-        let (world, part) = self.world_and_term(draft, depth)?;
         Ok(Term::Go {
-            written,
-            world,
-            part,
+            written: self.ty(draft, depth)?,
+            world: self.next_world(depth)?,
+            part: self.next_term(draft, depth)?,
         })
     }
 
     // The parts of a comparison.
-    #[cycle(below_get_go_more_parts_number_and_term_term_term_parts_throw_two_terms_type_and_term_world_and_term)]
+    #[cycle(below_get_go_more_parts_next_term_term_term_parts_throw)]
     fn below(&mut self, draft: &mut Program, depth: usize) -> Result<Term, TextFault>
         ensures led { (k : List Want) (vs : List ℕ) → Led result (at self.old draft.old (want_item Types ∷ want_stop space ∷ want_item Terms ∷ want_stop space ∷ want_item Terms ∷ want_stop space ∷ want_item Terms ∷ want_stop space ∷ want_item Terms ∷ k) vs depth) (λ t. at self.new draft.new k (parts_of_term t ++ vs) depth) }
         ensures formed { IfOk result (λ t. term_form t ≡ Below) }
     {
-        let written = self.ty(draft, depth)?;
-        self.stop(b' ')?;
-        let (left, right) = self.two_terms(draft, depth)?;
-        self.stop(b' ')?;
-        let (less, otherwise) = self.two_terms(draft, depth)?;
         Ok(Term::Below {
-            written,
-            left,
-            right,
-            less,
-            otherwise,
+            written: self.ty(draft, depth)?,
+            left: self.next_term(draft, depth)?,
+            right: self.next_term(draft, depth)?,
+            less: self.next_term(draft, depth)?,
+            otherwise: self.next_term(draft, depth)?,
         })
     }
 
     // The parts of a term that has two parts or more, its world aside.
-    #[cycle(below_get_go_more_parts_number_and_term_term_term_parts_throw_two_terms_type_and_term_world_and_term)]
+    #[cycle(below_get_go_more_parts_next_term_term_term_parts_throw)]
     fn more_parts(
         &mut self,
         draft: &mut Program,
@@ -223,39 +181,39 @@ impl Reader<'_> {
         ensures formed { IfOk result (λ t. term_form t ≡ form) }
     {
         match form {
-            Form::Lam => {
-                let (written, body) = self.type_and_term(draft, depth + 1)?;
-                Ok(Term::Lam { written, body })
-            }
-            Form::App => {
-                let (function, argument) = self.two_terms(draft, depth + 1)?;
-                Ok(Term::App { function, argument })
-            }
-            Form::Letd => {
-                let (address, body) = self.two_terms(draft, depth + 1)?;
-                Ok(Term::Letd { address, body })
-            }
-            Form::Pair => {
-                let (left, right) = self.two_terms(draft, depth + 1)?;
-                Ok(Term::Pair { left, right })
-            }
-            Form::Letcc => {
-                let (written, body) = self.type_and_term(draft, depth + 1)?;
-                Ok(Term::Letcc { written, body })
-            }
+            Form::Lam => Ok(Term::Lam {
+                written: self.ty(draft, depth + 1)?,
+                body: self.next_term(draft, depth + 1)?,
+            }),
+            Form::App => Ok(Term::App {
+                function: self.term(draft, depth + 1)?,
+                argument: self.next_term(draft, depth + 1)?,
+            }),
+            Form::Letd => Ok(Term::Letd {
+                address: self.term(draft, depth + 1)?,
+                body: self.next_term(draft, depth + 1)?,
+            }),
+            Form::Pair => Ok(Term::Pair {
+                left: self.term(draft, depth + 1)?,
+                right: self.next_term(draft, depth + 1)?,
+            }),
+            Form::Letcc => Ok(Term::Letcc {
+                written: self.ty(draft, depth + 1)?,
+                body: self.next_term(draft, depth + 1)?,
+            }),
             Form::Throw => self.throw(draft, depth + 1),
             Form::Go => self.go(draft, depth + 1),
-            Form::Gate => {
-                let (number, part) = self.number_and_term(draft, depth + 1)?;
-                Ok(Term::Gate { number, part })
-            }
+            Form::Gate => Ok(Term::Gate {
+                number: self.number(false)?,
+                part: self.next_term(draft, depth + 1)?,
+            }),
             Form::Below => self.below(draft, depth + 1),
             _ => unreachable(),
         }
     }
 
     // A term's parts.
-    #[cycle(below_get_go_more_parts_number_and_term_term_term_parts_throw_two_terms_type_and_term_world_and_term)]
+    #[cycle(below_get_go_more_parts_next_term_term_term_parts_throw)]
     fn term_parts(
         &mut self,
         draft: &mut Program,
@@ -283,15 +241,16 @@ impl Reader<'_> {
         }
     }
 
-    // A term.
-    #[cycle(below_get_go_more_parts_number_and_term_term_term_parts_throw_two_terms_type_and_term_world_and_term)]
+    // A term, read as a type is, into the other table: one method for both would hold a table of the draft while the parts are read into
+    // the draft.
+    #[cycle(below_get_go_more_parts_next_term_term_term_parts_throw)]
     fn term(&mut self, draft: &mut Program, depth: usize) -> Result<u16, TextFault>
         ensures { (k : List Want) (vs : List ℕ) → Led result (at self.old draft.old (want_item Terms ∷ k) vs depth) (λ n. at self.new draft.new k (n ∷ vs) depth) }
     {
-        let (number, form) = self.begin_term(draft, depth)?;
+        let (number, form) = self.begin(&mut draft.terms, Term::Num(0), Sort::Terms, depth)?;
         let node = self.term_parts(draft, form, depth)?;
         self.stop(form.last())?;
-        draft.settle_term(number, node);
+        draft.terms.set(usize::from(number), node);
         Ok(number)
     }
 }

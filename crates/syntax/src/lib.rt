@@ -1,5 +1,5 @@
 // Program texts: their grammar, their tables, reading and writing.
-#![tactic(auto)]
+#![tactic(auto, using(lines::proofs::Pieces::then))]
 
 pub mod access;
 mod draft;

@@ -1,4 +1,5 @@
-// The tables of a program. Types and terms are numbered from 0 in the order of their first bytes, and name their parts by these
+// The tables of a program, and no tree of boxes: a refusal names a term by its number, and no memory is taken while a text is read.
+// Types and terms are numbered from 0 in the order of their first bytes, and name their parts by these
 // numbers. Bound values, worlds and continuations are named by counts, separately, the innermost being 0.
 
 // A type. `Never` is written `none`.

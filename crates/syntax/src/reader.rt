@@ -1,11 +1,12 @@
 // A place in a text, and what is read there: bytes, numbers, words and worlds.
-ghost use Rattle.std.specs.Prelude.{◌≡◌, ℕ, ◌+◌, ◌<◌, ◌≤◌, true, false, List, [], ◌∷◌, ◌++◌, length, IfOk, if◌then◌else◌, OnOk, slice_index};
+ghost use Rattle.std.specs.Prelude.{◌≡◌, ℕ, ◌+◌, ◌<◌, ◌≤◌, true, false, List, [], ◌∷◌, ◌++◌, length, IfOk, if◌then◌else◌, OnOk, slice_index, take_while, ◌==◌};
+ghost use Rattle.std.specs.List.{zip};
 ghost use Rattle.syntax.specs.Grammar.{Want, Stop, byte, words, wants, last as last_byte, spelling, spelled_out};
 ghost use Rattle.syntax.specs.Grammar.Want.{stop as want_stop, number as want_number, item as want_item, word as want_word};
 ghost use Rattle.syntax.specs.Reading.{Seen, passed, push, digit, opened, full, begun};
 ghost use Rattle.syntax.specs.Reading.Outcome.{done, refused};
 ghost use Rattle.syntax.specs.Texts.{Apart, In};
-ghost use Rattle.syntax.specs.Views.{rest, from, Led, Peeked, Found, agreed, Clear, kind_of, count_of};
+ghost use Rattle.syntax.specs.Views.{rest, from, Led, Peeked, Found, Clear, kind_of, count_of};
 ghost use Rattle.syntax.specs.declared.grammar.Sort.TheVariants.{Worlds, Further};
 ghost use Rattle.syntax.specs.declared.grammar.Form.TheVariants.{Run};
 
@@ -31,11 +32,10 @@ impl Reader<'_> {
     fn peek(&self) -> Result<u8, TextFault>
         ensures { Peeked self.now result }
     {
-        if self.place < self.text.len() {
-            Ok(self.text[self.place])
-        } else {
-            Err(TextFault::Grammar(self.place))
-        }
+        self.text
+            .get(self.place)
+            .copied()
+            .ok_or(TextFault::Grammar(self.place))
     }
 
     // Takes the byte b.
@@ -50,7 +50,8 @@ impl Reader<'_> {
         Ok(())
     }
 
-    // A number with no leading zero, at most 65,535; a count of registers is at most 32.
+    // A number with no leading zero, at most 65,535; a count of registers is at most 32. `counts` is one test in the loop, and the same
+    // flag in the definition of reading: two functions would differ in that test alone.
     pub(crate) fn number(&mut self, counts: bool) -> Result<u16, TextFault>
         ensures few { IfOk result (λ v. counts ≡ true → v ≤ 32) }
         ensures led { (a : Stop) (k : List Want) (s : Seen) → digit (byte a) ≡ false → Led result (from self.old (want_number counts a ∷ k) s) (λ v. from self.new (want_stop a ∷ k) (push v s)) }
@@ -120,15 +121,15 @@ impl Reader<'_> {
     }
 
     // The word of the run line, on a full sheet: a station line is one too many.
-    pub(crate) fn last_line(&mut self) -> Result<(), TextFault>
-        ensures { (k : List Want) (s : Seen) → 16 ≤ length s.stations → Led result (from self.old (want_word Further (words Further) ∷ k) s) (λ _. from self.new (wants Run k) (opened Run s)) }
+    pub(crate) fn last_line(&mut self) -> Result<Form, TextFault>
+        ensures led { (k : List Want) (s : Seen) → 16 ≤ length s.stations → Led result (from self.old (want_word Further (words Further) ∷ k) s) (λ f. from self.new (wants f k) (opened f s)) }
+        ensures run { IfOk result (λ f. f ≡ Run) }
     {
         self.peek()?;
-        if agree(b"(s", &self.text[self.place..]) == 2 {
+        if self.text[self.place..].starts_with(b"(s") {
             return Err(TextFault::Sheet(self.place));
         }
-        self.pick(&[Form::Run])?;
-        Ok(())
+        self.pick(&[Form::Run])
     }
 
     // No byte is left.
@@ -157,7 +158,7 @@ impl Reader<'_> {
     }
 }
 
-// The form whose word the text begins with, or how far the words go with it.
+// The form whose word the text begins with, or how far the words go with it: two answers of one pass, which a chain would make twice.
 fn find(forms: &[Form], text: &[u8]) -> Result<Form, usize>
     ensures { Found forms.now text.now result }
 {
@@ -168,20 +169,14 @@ fn find(forms: &[Form], text: &[u8]) -> Result<Form, usize>
         if n == word.len() {
             return Ok(*form);
         }
-        if n > far {
-            far = n;
-        }
+        far = far.max(n);
     }
     Err(far)
 }
 
 // How many bytes of the word the text begins with.
 fn agree(word: &[u8], text: &[u8]) -> usize
-    ensures { result ≡ agreed word.now text.now }
+    ensures { result ≡ length (take_while (λ p. p.1 == p.0) (zip word.now text.now)) }
 {
-    let mut n = 0;
-    while n < word.len() && n < text.len() && word[n] == text[n] {
-        n += 1;
-    }
-    n
+    word.iter().zip(text).take_while(|(w, c)| c == w).count()
 }

@@ -7,6 +7,8 @@ use crate::table::Program;
 
 // Empty, or full with the program of the last text that was read; the draft is what a text is read into. What
 // was read is sound: its numbers lead to rows that are there.
+// The flag stands beside a program: the program that a place lends is one value with its tables, whose memory is reserved when the place
+// is made, so that an empty place holds two programs too and an `Option` of one would give up its tables.
 #[derive(Drop)]
 pub struct Text {
     pub(crate) program: Program,

@@ -1,7 +1,7 @@
 ghost use Rattle.syntax.specs.Promises.{ReadRight, ReadAll, ReadOne, Restored, ReadSound, ReadLow, ReadTree, RefusedExactly, AcceptedExactly, Answered, OneCount, LimitRight};
 
 // The theorems of reading.
-pub fn reading_stands() -> u8
+pub fn reading_stands()
     ensures right { ReadRight }
     ensures all { ReadAll }
     ensures one { ReadOne }
@@ -14,6 +14,4 @@ pub fn reading_stands() -> u8
     ensures answered { Answered }
     ensures count { OneCount }
     ensures limit { LimitRight }
-{
-    0
-}
+{}

@@ -1,10 +1,11 @@
 // Reads the lines of a text.
 ghost use Rattle.std.specs.Prelude.{◌≡◌, ℕ, ◌+◌, ◌<◌, true, false, List, [], ◌∷◌, length, IfOk, OnOk, nat_le};
+ghost use Rattle.instruments.specs.Sheets.{stations_of};
 ghost use Rattle.syntax.specs.Grammar.{Want, wants};
 ghost use Rattle.syntax.specs.Grammar.Want.{item as want_item};
 ghost use Rattle.syntax.specs.Reading.{Seen, go as go_on, start_none, opened};
 ghost use Rattle.syntax.specs.Reading.Outcome.{done};
-ghost use Rattle.syntax.specs.Views.{Led, from, at, inside, seen, line_form};
+ghost use Rattle.syntax.specs.Views.{Led, from, at, inside, seen};
 ghost use Rattle.syntax.specs.Place.{tables};
 ghost use Rattle.syntax.specs.declared.grammar.Form.TheVariants.{Station, Run};
 ghost use Rattle.syntax.specs.declared.grammar.Sort.TheVariants.{First, Further};
@@ -12,7 +13,11 @@ ghost use Rattle.syntax.specs.declared.grammar.Sort.TheVariants.{First, Further}
 use crate::grammar::{Form, Sort};
 use crate::reader::Reader;
 use crate::table::Program;
+use instruments::sheet::Sheet;
 use lines::refusal::TextFault;
+
+// How many stations a sheet may have.
+const STATIONS: usize = 16;
 
 impl Reader<'_> {
     // The first line is a station's.
@@ -24,20 +29,17 @@ impl Reader<'_> {
         Ok(())
     }
 
-    // A further line begins: a station's, or else the run line. On a full sheet a station's is one too many.
-    fn further_line(&mut self, full: bool) -> Result<bool, TextFault>
-        ensures led { (k : List Want) (s : Seen) → s.depth ≡ 0 → nat_le 16 (length s.stations) ≡ full → Led result (from self.old (want_item Further ∷ k) s) (λ b. from self.new (wants (line_form b) k) (opened (line_form b) s)) }
-        ensures room { IfOk result (λ b. b ≡ true → full ≡ false) }
+    // A further line begins, with a station's word or the run line's. On a full sheet a station's is one too many.
+    fn further_line(&mut self, sheet: &Sheet) -> Result<Form, TextFault>
+        ensures led { (k : List Want) (s : Seen) → s.depth ≡ 0 → s.stations ≡ stations_of sheet.now → Led result (from self.old (want_item Further ∷ k) s) (λ f. from self.new (wants f k) (opened f s)) }
+        ensures line { IfOk result (λ f. (f ≡ Station → ⊥) → f ≡ Run) }
+        ensures room { IfOk result (λ f. f ≡ Station → length (stations_of sheet.now) < 16) }
     {
         self.first(Sort::Further, 0)?;
-        if full {
-            self.last_line()?;
-            return Ok(false);
-        }
-        match self.word(Sort::Further)? {
-            Form::Station => Ok(true),
-            Form::Run => Ok(false),
-            _ => unreachable(),
+        if sheet.len() < STATIONS {
+            self.word(Sort::Further)
+        } else {
+            self.last_line()
         }
     }
 
@@ -60,7 +62,8 @@ impl Reader<'_> {
     fn run(&mut self, draft: &mut Program) -> Result<(), TextFault>
         ensures { (k : List Want) (vs : List ℕ) → Led result (inside self.old draft.old Run (wants Run k) vs 0) (λ _. at self.new draft.new k vs 0) }
     {
-        let (site, _) = self.number_and_term(draft, 1)?;
+        let site = self.number(false)?;
+        self.next_term(draft, 1)?;
         self.stop(b')')?;
         self.stop(b'\n')?;
         draft.start = site;
@@ -74,7 +77,7 @@ impl Reader<'_> {
     {
         self.first_line()?;
         self.station(draft)?;
-        while self.further_line(draft.sheet.len() >= 16)? {
+        while let Form::Station = self.further_line(&draft.sheet)? {
             self.station(draft)?;
         }
         self.run(draft)?;

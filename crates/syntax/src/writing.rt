@@ -1,6 +1,6 @@
 // Writing the text of a program back.
-ghost use Rattle.std.specs.Prelude.{◌≡◌, ◌≤◌};
-ghost use Rattle.lines.specs.Writing.{Writes, written, written_after};
+ghost use Rattle.std.specs.Prelude.{◌≡◌};
+ghost use Rattle.lines.specs.Writing.{Writes};
 ghost use Rattle.syntax.specs.Place.{tables, place as place_of};
 ghost use Rattle.syntax.specs.Spelt.{station_line, station_lines, text_of, written_back, written_back_after, WrittenRight};
 
@@ -9,51 +9,36 @@ use crate::text::Text;
 use instruments::sheet::Station;
 use lines::pen::Pen;
 use lines::refusal::{Refusal, Short};
+use lines::writing::Printed;
 
-fn put_station(pen: &mut Pen, out: &mut [u8], station: Station) -> Result<(), Short>
-    ensures { Writes pen.old out.old (station_line station) result pen.new out.new }
+fn put_station(pen: &mut Pen<'_>, station: Station) -> Result<(), Short>
+    ensures { Writes pen.old (station_line station) result pen.new }
 {
-    pen.numbered(out, b"(station ", station.gauges as usize)?;
-    pen.numbered(out, b" ", station.gates as usize)?;
-    pen.word(out, b")\n")
+    pen.numbered(b"(station ", station.gauges as usize)?;
+    pen.numbered(b" ", station.gates as usize)?;
+    pen.word(b")\n")
 }
 
 impl Program {
-    fn put_stations(&self, pen: &mut Pen, out: &mut [u8]) -> Result<(), Short>
-        requires { pen.old.at ≤ pen.old.limit }
-        ensures { Writes pen.old out.old (station_lines (tables self.now).stations) result pen.new out.new }
+    fn put_stations(&self, pen: &mut Pen<'_>) -> Result<(), Short>
+        ensures { Writes pen.old (station_lines (tables self.now).stations) result pen.new }
     {
-        for site in 0..self.sheet.len() {
-            let Some(station) = self.sheet.get(site) else {
-                unreachable()
-            };
-            put_station(pen, out, station)?;
+        for station in self.sheet.stations() {
+            put_station(pen, *station)?;
         }
         Ok(())
     }
+}
 
-    fn put_text(&self, pen: &mut Pen, out: &mut [u8]) -> Result<(), Short>
-        requires { pen.old.at ≤ pen.old.limit }
-        ensures { Writes pen.old out.old (text_of (tables self.now)) result pen.new out.new }
-    {
-        self.put_stations(pen, out)?;
-        pen.numbered(out, b"(run ", self.start as usize)?;
-        pen.word(out, b" ")?;
-        self.put_term(pen, out, 0, 64)?;
-        pen.word(out, b")\n")
-    }
+impl Printed for Program {
+    ghost text = { λ p. text_of (tables p) };
 
-    // Writes the whole text, or nothing where the buffer is too short.
-    fn write(&self, out: &mut [u8]) -> Result<usize, Refusal>
-        ensures value { result ≡ written (text_of (tables self.now)) out.old }
-        ensures after { out.new ≡ written_after (text_of (tables self.now)) out.old }
-    {
-        let mut nothing = [0u8; 0];
-        let mut measure = Pen::new(out.len());
-        self.put_text(&mut measure, &mut nothing)?;
-        let mut pen = Pen::new(out.len());
-        self.put_text(&mut pen, out)?;
-        Ok(pen.at)
+    fn put(&self, pen: &mut Pen<'_>) -> Result<(), Short> {
+        self.put_stations(pen)?;
+        pen.numbered(b"(run ", self.start as usize)?;
+        pen.word(b" ")?;
+        self.put_term(pen, 0, 64)?;
+        pen.word(b")\n")
     }
 }
 
@@ -71,8 +56,6 @@ impl Text {
 }
 
 // The theorem of writing.
-pub fn writing_stands() -> u8
+pub fn writing_stands()
     ensures { WrittenRight }
-{
-    0
-}
+{}

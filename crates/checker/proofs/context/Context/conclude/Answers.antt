@@ -11,10 +11,7 @@ judge-requires c =
     subst (λ (x : List Term). Asks c.load.new.self x 0) (sym c.terms.ensures)
     (whole_asks (tables c.args.program.now) c.load.new.self c.requires.sound (c.load.ensures.rows ∙ c.types.ensures) (c.load.ensures.written ∙ ap length c.types.ensures) (subst Clear (sym c.load.ensures.height) c.requires.clear))
 
-pub returns : goal.returns
-returns c =
-    record {
-      concluded = whole_concluded (tables c.args.program.now) c.load.new.self c.requires.sound (c.load.ensures.rows ∙ c.types.ensures) (c.load.ensures.written ∙ ap length c.types.ensures) (subst Clear (sym c.load.ensures.height) c.requires.clear)
-          c.sheet-sheet.ensures c.terms.ensures c.start-start.ensures (omega arith) c.judge.ensures.same c.judge.ensures.judged;
-      height = c.judge.ensures.same.height ∙ c.load.ensures.height;
-    }
+pub returns-clause-concluded : goal.returns-clause-concluded
+returns-clause-concluded c =
+    whole_concluded (tables c.args.program.now) c.load.new.self c.requires.sound (c.load.ensures.rows ∙ c.types.ensures) (c.load.ensures.written ∙ ap length c.types.ensures) (subst Clear (sym c.load.ensures.height) c.requires.clear)
+    c.sheet-sheet.ensures c.terms.ensures c.start-start.ensures (omega arith) c.judge.ensures.same c.judge.ensures.judged

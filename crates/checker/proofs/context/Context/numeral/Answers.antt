@@ -1,22 +1,12 @@
-use Rattle.std.proofs.Common.{◌≡◌, sym, ap, arith}
-use Rattle.syntax.specs.declared.program.Term.TheVariants as Row
-use Rattle.calculus.specs.Checker.{typed}
-use Rattle.checker.specs.Judging.{size}
-use Rattle.checker.proofs.Arms.{row_size, grown_more, built_grown, built_number, built_is}
+use Rattle.std.proofs.Common.{refl, arith}
+use Rattle.checker.proofs.Arms.{row_sizes}
+use Rattle.checker.proofs.Steps.{begun, built_last}
 use Rattle.checker.proofs.context.Context.numeral.Goals as goal
 
 pub build-requires : goal.build-requires
-build-requires c =
-    let A = c.requires.asks in
-    let sz : size c.args.terms.now c.args.term ≡ 1 = row_size A (Row.Num c.args.n) c.requires.row in
-    omega (arith, A.room, A.few, sz)
+build-requires c = omega (arith, c.requires.asks.room, c.requires.asks.few, row_sizes c.requires)
 
 pub returns : goal.returns
 returns c =
-    let A = c.requires.asks in
-    let sz : size c.args.terms.now c.args.term ≡ 1 = row_size A (Row.Num c.args.n) c.requires.row in
     let h = c.build.ensures in
-    record {
-      judged = record { answer = record { number = built_number A.ready tt tt h; verdict = ap typed (sym (built_is A.ready tt tt h)); grown = grown_more (omega (arith, sz)) (built_grown A.ready tt tt h) } };
-      same = h.same;
-    }
+    record { judged = record { answer = built_last c.requires.asks.ready (begun c.requires) tt tt h refl (omega (arith, row_sizes c.requires)) }; same = h.same }

@@ -1,9 +1,11 @@
-use Rattle.std.proofs.Common.{◌≡◌, map, length, take}
-use Rattle.instruments.specs.Benches.{fitted, silent_gauges, silent_gates}
+use Rattle.std.proofs.Common.{◌≡◌, map, take}
+use Rattle.instruments.specs.Items.{items_of}
+use Rattle.instruments.specs.Sheets.{stations_of}
+use Rattle.instruments.specs.Benches.{fitted_gauges, fitted_gates, silent_gauges, silent_gates}
 use Rattle.instruments.proofs.bench.Bench.new.Given as goal
 
-abbrev pub invariant-loop-site : goal.invariant-loop-site
-invariant-loop-site l =
-    (length l.gauges ≡ 16) × (length l.gates ≡ 16)
-    × (map fitted (take l.site l.gauges) ≡ map silent_gauges (take l.site l.sheet.stations))
-    × (map fitted (take l.site l.gates) ≡ map silent_gates (take l.site l.sheet.stations))
+abbrev pub invariant-loop-station : goal.invariant-loop-station
+invariant-loop-station l = record {
+  gauges : map fitted_gauges (items_of l.sites) ≡ map silent_gauges (take l.station-index (stations_of l.sheet));
+  gates : map fitted_gates (items_of l.sites) ≡ map silent_gates (take l.station-index (stations_of l.sheet));
+}

@@ -11,7 +11,7 @@ last n = ap (λ (t : List ℕ). codes " " ++ t) (sym (append-nil (decimal n)))
 pub returns-in_ok-numbered-in-Register-2 : goal.returns-in_ok-numbered-in-Register-2
 returns-in_ok-numbered-in-Register-2 c =
     let steps = c.args.self.steps in
-    rw (c.in-Register.is, ← c.kind.ensures, ← c.number.ensures, ← last steps)
+    rw (c.in-Register.is, ← c.from.ensures, ← c.number.ensures, ← last steps)
     (then c.in_ok-numbered-in-Register.ensures.ended (then c.in_ok-numbered-in-Register-2.ensures.ended c.numbered-in-Register-2.ensures))
 
 pub returns-in_ok-numbered-in-Full : goal.returns-in_ok-numbered-in-Full

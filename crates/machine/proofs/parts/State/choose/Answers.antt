@@ -1,17 +1,18 @@
-use Rattle.std.proofs.Common.{vec_items, sym, ap, ◌∙◌, subst}
+use Rattle.std.proofs.Common.{sym, ap, ◌∙◌, subst}
 use Rattle.calculus.specs.Machine
 use Rattle.calculus.specs.Limits.{lacking, no_place}
 use Rattle.machine.specs.Meaning.{state_of, sites_of, places_of}
 use Rattle.machine.specs.Answers.{Goes, answered, chosen, scope, over}
 use Rattle.machine.proofs.Sorts.{is_number_then}
 use Rattle.machine.specs.declared.parts.Value.TheVariants as Val
+use Rattle.machine.proofs.Sound.{sound}
 use Rattle.machine.proofs.parts.State.choose.Goals as goal
 
 pub unreachable-requires : goal.unreachable-requires
-unreachable-requires c = is_number_then (vec_items c.args.self.now.store.cells) c.requires.state.store_in.cells_in c.args.left c.requires.left c.requires.first c.in_default.not-Number
+unreachable-requires c = is_number_then c.args.self.now.store.cells.items (sound c.args.self.now).store_in.cells_in c.args.left c.requires.left c.requires.first c.in_default.not-Number
 
 pub unreachable-requires-in_default-value : goal.unreachable-requires-in_default-value
-unreachable-requires-in_default-value c = is_number_then (vec_items c.args.self.now.store.cells) c.requires.state.store_in.cells_in c.args.value c.requires.value c.requires.second c.in_default-value.not-Number
+unreachable-requires-in_default-value c = is_number_then c.args.self.now.store.cells.items (sound c.args.self.now).store_in.cells_in c.args.value c.requires.work.0 c.requires.second c.in_default-value.not-Number
 
 pub returns : goal.returns
 returns c v =

@@ -8,7 +8,11 @@ use Rattle.machine.specs.Answers.{Goes, Met, answered, shown, gauged, over}
 use Rattle.lines.specs.declared.refusal.Instrument.TheVariants.{Gauge}
 use Rattle.machine.proofs.Evaluating.{gauge_silent, gauge_shown, fault_of, answer_of}
 use Rattle.machine.proofs.Looks.{event_goes}
+use Rattle.machine.proofs.Sound.{continuation_sound}
 use Rattle.machine.proofs.parts.State.gauge.Goals as goal
+
+pub go_on-requires : goal.go_on-requires
+go_on-requires g c = (tt, continuation_sound c.args.self.now)
 
 pub returns-in_err-reading : goal.returns-in_err-reading
 returns-in_err-reading g c =
@@ -26,5 +30,5 @@ returns g c =
     let v = shown (g.W.Gauges.readings c.args.works.now) (g.W.Works.settings c.args.works.now) in
     let e = gauge_shown v s c.args.number c.in_ok-reading.reading (answer_of Gauge c.in_ok-reading.reading _ c.in_ok-reading.ensures) in
     let t = c.go_on.new.self in
-    let k = event_goes s c.requires.state t v _ quiet (was_read s.site c.args.number s.site) _ (c.go_on.ensures v) in
+    let k = event_goes s t v _ quiet (was_read s.site c.args.number s.site) _ (c.go_on.ensures v) in
     subst (λ o. Goes s t v (answered (Machine.gauge_shows v (sites_of s) s.site (places_of s) (over s s.continuation) c.args.number o) (lacking no_place (state_of s)))) (sym e) k

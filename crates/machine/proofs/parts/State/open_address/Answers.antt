@@ -1,6 +1,7 @@
-use Rattle.std.proofs.Common.{vec_items}
+use Rattle.std.proofs.Common.{}
 use Rattle.machine.proofs.Sorts.{is_address_then}
+use Rattle.machine.proofs.Sound.{sound}
 use Rattle.machine.proofs.parts.State.open_address.Goals as goal
 
 pub unreachable-requires : goal.unreachable-requires
-unreachable-requires c = is_address_then (vec_items c.args.self.now.store.cells) c.requires.state.store_in.cells_in c.args.value c.requires.value c.requires.kind c.in_default.not-Address
+unreachable-requires c = is_address_then c.args.self.now.store.cells.items (sound c.args.self.now).store_in.cells_in c.args.value c.requires.work.0 c.requires.kind c.in_default.not-Address

@@ -1,14 +1,15 @@
-use Rattle.std.proofs.Common.{◌≡◌, true, false, sym, ap, ◌∙◌, arith}
+use Rattle.std.proofs.Common.{◌≡◌, true, false, refl, sym, ap, ◌∙◌, arith}
 use Rattle.machine.specs.Answers.{is_some}
 use Rattle.machine.proofs.Looks.{kept_within, kept_read, kept_missing, resume_goes}
+use Rattle.machine.proofs.Sound.{sound, moved}
 use Rattle.machine.proofs.parts.State.resume.Goals as goal
 
 pub kept-requires : goal.kept-requires
 kept-requires c =
     let s = c.args.self.now in
     let w = kept_within s c.args.site c.args.kept c.requires.found in
-    let a = c.requires.state.store_in.rows_are in
-    let b = c.requires.state.stations_few in
+    let a = (sound s).store_in.rows_are in
+    let b = (sound s).stations_few in
     omega arith
 
 pub unreachable-requires : goal.unreachable-requires
@@ -19,10 +20,16 @@ unreachable-requires c =
     let z : false ≡ true = sym (ap is_some e) ∙ c.requires.found in
     grind arith
 
+pub invariant_of-self : goal.invariant_of-self
+invariant_of-self c =
+    let s = c.args.self.now in
+    let p = c.in-Some.ensures in
+    let k = ((sound s).store_in.rows_in c.args.site p.0 p.1).kept_in c.args.kept c.in-Some.continuation (sym p.2) in
+    record { sound = ∣ moved s c.args.site c.in-Some.continuation c.args.phase (kept_within s c.args.site c.args.kept c.requires.found) (c.requires.phase, k) ∣₁ }
+
 pub returns : goal.returns
 returns c v =
     let s = c.args.self.now in
     let p = c.in-Some.ensures in
     let w = kept_within s c.args.site c.args.kept c.requires.found in
-    let e = kept_read s c.args.site w p.0 p.1 c.args.kept c.in-Some.continuation p.2 in
-    resume_goes s c.requires.state c.args.site c.args.kept c.in-Some.continuation c.args.phase v w ((c.requires.state.store_in.rows_in _ p.0 p.1).kept_in c.args.kept c.in-Some.continuation (sym p.2)) c.requires.phase e
+    (refl, resume_goes s c.args.site c.args.kept c.in-Some.continuation c.args.phase v (kept_read s c.args.site w p.0 p.1 c.args.kept c.in-Some.continuation p.2))

@@ -1,4 +1,4 @@
-use Rattle.std.proofs.Common.{vec_items, sym, refl, ap, ◌∙◌, subst}
+use Rattle.std.proofs.Common.{sym, refl, ap, ◌∙◌, subst}
 use Rattle.std.proofs.lemmas.Result.{err_from_is_err_and}
 use Rattle.calculus.specs.Machine
 use Rattle.calculus.specs.Step.{quiet, was_set}
@@ -10,10 +10,11 @@ use Rattle.machine.proofs.Asks.{done_err, done_ok, set_none, set_put}
 use Rattle.machine.proofs.Evaluating.{gate_silent, gate_shown, fault_of, answer_of}
 use Rattle.machine.proofs.Looks.{event_goes}
 use Rattle.lines.specs.declared.refusal.Instrument.TheVariants.{Gate}
+use Rattle.machine.proofs.Sound.{sound}
 use Rattle.machine.proofs.parts.State.set.Goals as goal
 
 pub unreachable-requires : goal.unreachable-requires
-unreachable-requires g c = is_number_then (vec_items c.args.self.now.store.cells) c.requires.state.store_in.cells_in c.args.value c.requires.value (wants_number c.args.self.now.stations (held c.args.self.now c.args.value) _ c.requires.live) c.in_default.not-Number
+unreachable-requires g c = is_number_then c.args.self.now.store.cells.items (sound c.args.self.now).store_in.cells_in c.args.value c.requires.work.0 (wants_number c.args.self.now.stations (held c.args.self.now c.args.value) _ c.requires.live) c.in_default.not-Number
 
 pub returns-in_err-set_gate : goal.returns-in_err-set_gate
 returns-in_err-set_gate g c =
@@ -43,7 +44,7 @@ returns g c =
     let gates = c.set_gate.ensures.after ∙ set_put v.gates s.site w n old.0 old.1 in
     let t = c.go_on.new.self in
     let L = Machine.state (sites_of s) s.site (over s c.args.next) (Machine.back (Machine.number n)) (places_of s) in
-    let k = event_goes s c.requires.state t u L quiet (was_set s.site w n s.site) _ (c.go_on.ensures u) in
+    let k = event_goes s t u L quiet (was_set s.site w n s.site) _ (c.go_on.ensures u) in
     let path =
     ap (λ x. gated v s c.args.next x w) c.in-Number.is
     ∙ ap (λ o. Machine.gate_set v (sites_of s) s.site (places_of s) (over s c.args.next) w n o) e

@@ -1,6 +1,5 @@
 use Rattle.std.proofs.Common.{sym, ◌∙◌}
 use Rattle.machine.specs.Meaning.{state_of}
-use Rattle.machine.specs.Marks.{bits_of}
 use Rattle.machine.specs.Answers.{shown}
 use Rattle.machine.proofs.parts.State.step_marked.Goals as goal
 
@@ -15,4 +14,4 @@ returns-clause-marks g c =
     let v = shown (g.W.Gauges.readings c.args.works.now) (g.W.Works.settings c.args.works.now) in
     let u = shown (g.W.Gauges.readings c.step.new.works) (g.W.Works.settings c.step.new.works) in
     let q = c.in_ok-step.ensures in
-    c.mark_touched.ensures ∙ sym (c.touched-touched.ensures.marks v (state_of c.step.new.self) u q.2 (bits_of c.args.marks.now))
+    c.mark_touched.ensures ∙ sym (c.touched-touched.ensures.marks v (state_of c.step.new.self) u q.1 c.args.marks.now)

@@ -1,4 +1,4 @@
-use Rattle.std.proofs.Common.{◌≡◌, length, vec_items, sym, subst}
+use Rattle.std.proofs.Common.{◌≡◌, length, sym, subst}
 use Rattle.calculus.specs.Machine
 use Rattle.calculus.specs.Program.{Program}
 use Rattle.calculus.specs.Step.{Works}
@@ -18,8 +18,8 @@ module _ (v : Works) (s : State) (P : Program) (next : Continuation) (u : Value)
   live_at : a ≡ b → Lands s.stations (framed v s P next u a) → Lands s.stations (framed v s P next u b)
   live_at e h = subst (λ t. Lands s.stations (framed v s P next u t)) e h
 
-  task_at : a ≡ b → TaskIn (vec_items s.store.cells) (length (vec_items s.store.cells)) a → TaskIn (vec_items s.store.cells) (length (vec_items s.store.cells)) b
-  task_at e h = subst (TaskIn (vec_items s.store.cells) (length (vec_items s.store.cells))) e h
+  task_at : a ≡ b → TaskIn s.store.cells.items (length s.store.cells.items) a → TaskIn s.store.cells.items (length s.store.cells.items) b
+  task_at e h = subst (TaskIn s.store.cells.items (length s.store.cells.items)) e h
 
 pub call-requires : goal.call-requires
 call-requires g c =
@@ -27,14 +27,14 @@ call-requires g c =
     let v = shown (g.W.Gauges.readings c.args.works.now) (g.W.Works.settings c.args.works.now) in
     let P = of_terms c.args.program.now in
     let e = c.in-Applied.is in
-    record { state = c.requires.state; function = task_at v s P c.args.next c.args.value e c.requires.task; value = c.requires.value; next = c.requires.next; kind = wants_function s.stations (held s c.in-Applied.function) _ (live_at v s P c.args.next c.args.value e c.requires.live) }
+    record { function = task_at v s P c.args.next c.args.value e c.requires.task; work = c.requires.work; kind = wants_function s.stations (held s c.in-Applied.function) _ (live_at v s P c.args.next c.args.value e c.requires.live) }
 
 pub unbox-requires : goal.unbox-requires
 unbox-requires g c =
     let s = c.args.self.now in
     let v = shown (g.W.Gauges.readings c.args.works.now) (g.W.Works.settings c.args.works.now) in
     let P = of_terms c.args.program.now in
-    record { state = c.requires.state; value = c.requires.value; next = c.requires.next; kind = wants_code s.stations (held s c.args.value) _ (live_at v s P c.args.next c.args.value c.in-Unbox.is c.requires.live) }
+    record { work = c.requires.work; kind = wants_code s.stations (held s c.args.value) _ (live_at v s P c.args.next c.args.value c.in-Unbox.is c.requires.live) }
 
 pub open_address-requires : goal.open_address-requires
 open_address-requires g c =
@@ -42,21 +42,21 @@ open_address-requires g c =
     let v = shown (g.W.Gauges.readings c.args.works.now) (g.W.Works.settings c.args.works.now) in
     let P = of_terms c.args.program.now in
     let e = c.in-Open.is in
-    record { state = c.requires.state; environment = task_at v s P c.args.next c.args.value e c.requires.task; value = c.requires.value; next = c.requires.next; kind = wants_address s.stations (held s c.args.value) _ (live_at v s P c.args.next c.args.value e c.requires.live) }
+    record { environment = task_at v s P c.args.next c.args.value e c.requires.task; work = c.requires.work; kind = wants_address s.stations (held s c.args.value) _ (live_at v s P c.args.next c.args.value e c.requires.live) }
 
 pub halves-left-requires : goal.halves-left-requires
 halves-left-requires g c =
     let s = c.args.self.now in
     let v = shown (g.W.Gauges.readings c.args.works.now) (g.W.Works.settings c.args.works.now) in
     let P = of_terms c.args.program.now in
-    record { state = c.requires.state; value = c.requires.value; kind = wants_pair s.stations (held s c.args.value) _ (live_at v s P c.args.next c.args.value c.in-First.is c.requires.live) }
+    record { value = c.requires.work.0; kind = wants_pair s.stations (held s c.args.value) _ (live_at v s P c.args.next c.args.value c.in-First.is c.requires.live) }
 
 pub halves-right-requires : goal.halves-right-requires
 halves-right-requires g c =
     let s = c.args.self.now in
     let v = shown (g.W.Gauges.readings c.args.works.now) (g.W.Works.settings c.args.works.now) in
     let P = of_terms c.args.program.now in
-    record { state = c.requires.state; value = c.requires.value; kind = wants_pair s.stations (held s c.args.value) _ (live_at v s P c.args.next c.args.value c.in-Second.is c.requires.live) }
+    record { value = c.requires.work.0; kind = wants_pair s.stations (held s c.args.value) _ (live_at v s P c.args.next c.args.value c.in-Second.is c.requires.live) }
 
 pub choose-requires : goal.choose-requires
 choose-requires g c =
@@ -66,7 +66,7 @@ choose-requires g c =
     let e = c.in-Compared.is in
     let t = task_at v s P c.args.next c.args.value e c.requires.task in
     let n = chosen_numbers s.stations (held s c.in-Compared.left) (held s c.args.value) _ (live_at v s P c.args.next c.args.value e c.requires.live) in
-    record { state = c.requires.state; left = t.0; environment = t.1; value = c.requires.value; next = c.requires.next; first = n.0; second = n.1 }
+    record { left = t.0; environment = t.1; work = c.requires.work; first = n.0; second = n.1 }
 
 pub returns-in-Open : goal.returns-in-Open
 returns-in-Open g c =

@@ -1,4 +1,4 @@
-use Rattle.std.proofs.Common.{◌≡◌, true, [], length, vec_items, sym, subst, rules, le-ltb}
+use Rattle.std.proofs.Common.{◌≡◌, true, [], length, sym, subst, rules, le-ltb}
 use Rattle.instruments.specs.Sheets.{stations_of}
 use Rattle.syntax.specs.Reading.{read}
 use Rattle.syntax.specs.Reading.Outcome.{done}
@@ -24,7 +24,7 @@ invariant_of-self-2 c =
     let bs = c.args.bytes.now in
     let s = seen (tables c.read_into.new.draft) [] 0 in
     let e : read bs ≡ done s = rw (le-ltb 65536 (length bs) c.if-bytes-gt65536.false) c.in_ok-read_into.ensures in
-    let P : Program → Type 0 = λ p. sound_test (vec_items p.types) (vec_items p.terms) (stations_of p.sheet) ≡ true in
+    let P : Program → Type 0 = λ p. sound_test p.types.items p.terms.items (stations_of p.sheet) ≡ true in
     record { sound = subst P (sym c.swap.ensures.x_after) (read_tested bs s e) }
 
 pub returns : goal.returns

@@ -1,0 +1,5 @@
+use Rattle.std.proofs.Common.{◌-◌}
+use Rattle.checker.proofs.types.TypeRows.+same.Given as goal
+
+abbrev pub decreases-same : goal.decreases-same
+decreases-same l = l.self.written - l.b
