@@ -35,7 +35,7 @@ fn run(rt: &HostRuntime) -> anyhow::Result<()> {
     print(rt, out.as_slice(), written)
 }
 
-// As in the other program, by hand: this and the last lines of `print` are all that the two share, and no library of theirs would be plainer.
+// As in the other program, by hand: this and the check of a length are all that the two share, and no library of theirs would be plainer.
 fn main(rt: HostRuntime) -> ExitCode {
     match run(&rt) {
         Ok(()) => ExitCode::SUCCESS,
