@@ -3,6 +3,8 @@ use crate::outcomes::code_of;
 use checker::accepted::Accepted;
 use checker::checking::check as check_program;
 use checker::scopes::ScopeList;
+use instruments::bench::Bench;
+use instruments::works::{Gauges, Works};
 use std::alloc::AllocError;
 use std::test::Fail;
 use syntax::text::Text;
@@ -226,4 +228,47 @@ fn a_refusal_inside_binders_leaves_nothing_bound(rt: HostRuntime) -> Result<(), 
     );
     assert!(rt; d.text.write(&mut out).is_ok());
     Ok(())
+}
+
+// Sixty functions, one in the other, around a leaf.
+fn nested(rt: &HostRuntime, leaf: &[u8]) -> Result<Vec<u8>, AllocError> {
+    let mut text = Vec::new(rt.alloc());
+    text.extend_from_slice(b"(station 1 0)\n(run 0 ")?;
+    for _ in 0..60 {
+        text.extend_from_slice(b"(lam num ")?;
+    }
+    text.extend_from_slice(leaf)?;
+    for _ in 0..60 {
+        text.extend_from_slice(b")")?;
+    }
+    text.extend_from_slice(b")\n")?;
+    Ok(text)
+}
+
+#[test]
+fn binders_nest_deep(rt: HostRuntime) -> Result<(), Fail> {
+    let mut d = empty_desk(&rt)?;
+    assert_eq!(rt;
+        outcome(&mut d, nested(&rt, b"(v 60)")?.as_slice()),
+        (20, 60)
+    );
+    assert_eq!(rt; outcome(&mut d, nested(&rt, b"(v 59)")?.as_slice()), (0, 0));
+    Ok(())
+}
+
+#[test]
+fn a_bench_on_the_sheet_of_a_program(rt: HostRuntime) -> Result<(), Fail> {
+    let mut d = empty_desk(&rt)?;
+    assert_eq!(rt;
+        outcome(&mut d, b"(station 2 1)\n(run 0 (num 1))\n"),
+        (0, 0)
+    );
+    match d.program.sheet() {
+        Ok(sheet) => {
+            let bench = Bench::new(&sheet);
+            assert_eq!(rt; (bench.sites(), bench.gauges(0), bench.gates(0)), (1, 2, 1));
+            Ok(())
+        }
+        Err(_) => Err(Fail::new("no sheet")),
+    }
 }
