@@ -18,7 +18,7 @@ use Rattle.checker.proofs.Compare.{parts_in}
 use Rattle.checker.proofs.Verdicts.{alike_goes, unlike_stops}
 
 -- a row of another form stops
-no_fn : (M : ℕ → Ty) (r : TypeRow) (e : CheckFault) (k : Ty → Ty → Checked) → ((x y : ℕ) → r ≡ Row.Fn x y → ⊥) → when_fn (grow_type M r) e k ≡ refused e
+pub no_fn : (M : ℕ → Ty) (r : TypeRow) (e : CheckFault) (k : Ty → Ty → Checked) → ((x y : ℕ) → r ≡ Row.Fn x y → ⊥) → when_fn (grow_type M r) e k ≡ refused e
 no_fn M Row.Num e k q = refl
 no_fn M Row.Never e k q = refl
 no_fn M (Row.Fn a b) e k q = absurd (q a b refl)
@@ -26,7 +26,7 @@ no_fn M (Row.Boxed a) e k q = refl
 no_fn M (Row.At a) e k q = refl
 no_fn M (Row.Both a b) e k q = refl
 
-no_boxed : (M : ℕ → Ty) (r : TypeRow) (e : CheckFault) (k : Ty → Checked) → ((x : ℕ) → r ≡ Row.Boxed x → ⊥) → when_box (grow_type M r) e k ≡ refused e
+pub no_boxed : (M : ℕ → Ty) (r : TypeRow) (e : CheckFault) (k : Ty → Checked) → ((x : ℕ) → r ≡ Row.Boxed x → ⊥) → when_box (grow_type M r) e k ≡ refused e
 no_boxed M Row.Num e k q = refl
 no_boxed M Row.Never e k q = refl
 no_boxed M (Row.Fn a b) e k q = refl
@@ -34,7 +34,7 @@ no_boxed M (Row.Boxed a) e k q = absurd (q a refl)
 no_boxed M (Row.At a) e k q = refl
 no_boxed M (Row.Both a b) e k q = refl
 
-no_at : (M : ℕ → Ty) (r : TypeRow) (e : CheckFault) (k : Ty → Checked) → ((x : ℕ) → r ≡ Row.At x → ⊥) → when_at (grow_type M r) e k ≡ refused e
+pub no_at : (M : ℕ → Ty) (r : TypeRow) (e : CheckFault) (k : Ty → Checked) → ((x : ℕ) → r ≡ Row.At x → ⊥) → when_at (grow_type M r) e k ≡ refused e
 no_at M Row.Num e k q = refl
 no_at M Row.Never e k q = refl
 no_at M (Row.Fn a b) e k q = refl
@@ -42,7 +42,7 @@ no_at M (Row.Boxed a) e k q = refl
 no_at M (Row.At a) e k q = absurd (q a refl)
 no_at M (Row.Both a b) e k q = refl
 
-no_both : (M : ℕ → Ty) (r : TypeRow) (e : CheckFault) (k : Ty → Ty → Checked) → ((x y : ℕ) → r ≡ Row.Both x y → ⊥) → when_both (grow_type M r) e k ≡ refused e
+pub no_both : (M : ℕ → Ty) (r : TypeRow) (e : CheckFault) (k : Ty → Ty → Checked) → ((x y : ℕ) → r ≡ Row.Both x y → ⊥) → when_both (grow_type M r) e k ≡ refused e
 no_both M Row.Num e k q = refl
 no_both M Row.Never e k q = refl
 no_both M (Row.Fn a b) e k q = refl
@@ -75,7 +75,7 @@ carried_num M (Row.At a) = refl
 carried_num M (Row.Both a b) = refl
 
 -- what a get may bring goes on, and another type is refused
-carried_goes : (M : ℕ → Ty) (m : Mobile) (r : TypeRow) (e : CheckFault) (k : Checked) → carried_row m r ≡ true → when_mobile m (grow_type M r) e k ≡ k
+pub carried_goes : (M : ℕ → Ty) (m : Mobile) (r : TypeRow) (e : CheckFault) (k : Checked) → carried_row m r ≡ true → when_mobile m (grow_type M r) e k ≡ k
 carried_goes M Code Row.Num e k q = let z : ◌≡◌ {A = ℕ} 0 1 = cc in absurd (omega arith)
 carried_goes M Code Row.Never e k q = let z : ◌≡◌ {A = ℕ} 0 1 = cc in absurd (omega arith)
 carried_goes M Code (Row.Fn a b) e k q = let z : ◌≡◌ {A = ℕ} 0 1 = cc in absurd (omega arith)
@@ -90,7 +90,7 @@ carried_goes M Address (Row.At a) e k q = refl
 carried_goes M Address (Row.Both a b) e k q = let z : ◌≡◌ {A = ℕ} 0 1 = cc in absurd (omega arith)
 carried_goes M Number r e k q = alike_goes (grow_type M r) num e k (carried_num M r ∙ q)
 
-carried_stops : (M : ℕ → Ty) (m : Mobile) (r : TypeRow) (e : CheckFault) (k : Checked) → carried_row m r ≡ false → when_mobile m (grow_type M r) e k ≡ refused e
+pub carried_stops : (M : ℕ → Ty) (m : Mobile) (r : TypeRow) (e : CheckFault) (k : Checked) → carried_row m r ≡ false → when_mobile m (grow_type M r) e k ≡ refused e
 carried_stops M Code Row.Num e k q = refl
 carried_stops M Code Row.Never e k q = refl
 carried_stops M Code (Row.Fn a b) e k q = refl

@@ -7,7 +7,7 @@ ghost use Rattle.checker.specs.TypeLine.{type_text, type_line, type_written, typ
 
 use crate::accepted::Accepted;
 use crate::types::TypeRows;
-use lines::pen::Pen;
+use lines::pen::BufferPen;
 use lines::refusal::{Refusal, Short};
 use lines::writing::Printed;
 use syntax::program::Ty;
@@ -17,7 +17,7 @@ use syntax::program::Ty;
 impl TypeRows<'_> {
     // A word, a type and the bracket that closes it.
     #[cycle(put_put_one_put_two)]
-    fn put_one(self, pen: &mut Pen<'_>, word: &[u8], part: u16) -> Result<(), Short>
+    fn put_one(self, pen: &mut BufferPen<'_>, word: &[u8], part: u16) -> Result<(), Short>
         requires { part < length self.rows.now }
         ensures { Writes pen.old (word.now ++ (type_text (meaning self.entry.written self.entry.rows.now part) ++ codes ")")) result pen.new }
     {
@@ -28,7 +28,7 @@ impl TypeRows<'_> {
 
     // A word, two types and the bracket that closes it.
     #[cycle(put_put_one_put_two)]
-    fn put_two(self, pen: &mut Pen<'_>, word: &[u8], left: u16, right: u16) -> Result<(), Short>
+    fn put_two(self, pen: &mut BufferPen<'_>, word: &[u8], left: u16, right: u16) -> Result<(), Short>
         requires left { left < length self.rows.now }
         requires right { right < length self.rows.now }
         ensures { Writes pen.old (word.now ++ (type_text (meaning self.entry.written self.entry.rows.now left) ++ (codes " " ++ (type_text (meaning self.entry.written self.entry.rows.now right) ++ codes ")")))) result pen.new }
@@ -42,7 +42,7 @@ impl TypeRows<'_> {
 
     // The type with a number.
     #[cycle(put_put_one_put_two)]
-    fn put(self, pen: &mut Pen<'_>, number: u16) -> Result<(), Short>
+    fn put(self, pen: &mut BufferPen<'_>, number: u16) -> Result<(), Short>
         requires { number < length self.rows.now }
         ensures { Writes pen.old (type_text (meaning self.entry.written self.entry.rows.now number)) result pen.new }
     {
@@ -68,7 +68,7 @@ struct TypeLine<'a> {
 impl Printed for TypeLine<'_> {
     ghost text = { λ t. type_line (meaning t.types.written t.types.rows.now t.number) };
 
-    fn put(&self, pen: &mut Pen<'_>) -> Result<(), Short> {
+    fn put(&self, pen: &mut BufferPen<'_>) -> Result<(), Short> {
         pen.word(b"(type ")?;
         self.types.put(pen, self.number)?;
         pen.word(b")\n")

@@ -26,10 +26,10 @@ module _ (bs : List ℕ) where
       let p = or_none (site_bad bs t) (bad_from bs (t + 1) k) e in
       ⊎_elim (λ (q : s ≡ t). rw q p.0) (λ (q : s ≡ t → ⊥). each_none k (t + 1) s p.1 (lt_from s t l q) (omega arith)) (cases_eq s t)
 
-  few_gauges : bad_from bs 0 (length bs / 140) ≡ None → Counts bs 0
+  pub few_gauges : bad_from bs 0 (length bs / 140) ≡ None → Counts bs 0
   few_gauges e s h = let q = each_none (length bs / 140) 0 s e (omega arith) (omega arith) in grind (arith, nat_tests)
 
-  few_gates : bad_from bs 0 (length bs / 140) ≡ None → Counts bs 1
+  pub few_gates : bad_from bs 0 (length bs / 140) ≡ None → Counts bs 1
   few_gates e s h = let q = each_none (length bs / 140) 0 s e (omega arith) (omega arith) in grind (arith, nat_tests)
 
 passed : (bs : List ℕ) (n : ℕ) (t : Bool) (o : Option ℕ) → cond t (checked bs o) (Err (Length n)) ≡ Ok tt → (t ≡ true) × (o ≡ None)

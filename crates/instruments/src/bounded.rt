@@ -1,14 +1,14 @@
 // A list of at most `N` items that lies in the value itself. It is `Copy`, as `ArrayVec` is not, whose `clone` may lack memory.
 #![tactic(auto, using(crate::proofs::Slots::in_slots))]
 
-ghost use Rattle.std.specs.Prelude.{◌≡◌, ◌≤◌, length};
+ghost use Rattle.std.specs.Prelude.{◌≡◌, ◌≤◌, ⊤, length};
 
 use std::alloc::AllocError;
 
 // Of the slots the first `count` are items.
 pub(crate) struct Bounded<T: Copy, const N: usize> {
     count: usize,
-    slots: [T; N],
+    pub(crate) slots: [T; N],
     ghost within: { (count ≤ N) × (length slots ≡ N) },
 }
 
@@ -16,6 +16,10 @@ pub(crate) struct Bounded<T: Copy, const N: usize> {
 impl<T: Copy, const N: usize> Copy for Bounded<T, N> {}
 
 impl<T: Copy, const N: usize> Clone for Bounded<T, N> {
+    ghost is_clone = { λ x y. y ≡ x };
+
+    ghost is_infallible = { λ _. ⊤ };
+
     fn clone(&self) -> Result<Bounded<T, N>, AllocError> {
         Ok(*self)
     }

@@ -5,11 +5,11 @@ ghost use Rattle.instruments.specs.Registers.{site_row};
 ghost use Rattle.instruments.specs.Surveys.{gauge_line, site_text, survey_text};
 
 use crate::works::Gauges;
-use lines::pen::Pen;
+use lines::pen::BufferPen;
 use lines::refusal::{Refusal, Short};
 use lines::writing::Printed;
 
-fn put_gauge(pen: &mut Pen<'_>, site: usize, number: usize, shows: Option<u16>) -> Result<(), Short>
+fn put_gauge(pen: &mut BufferPen<'_>, site: usize, number: usize, shows: Option<u16>) -> Result<(), Short>
     ensures { Writes pen.old (gauge_line site number shows) result pen.new }
 {
     match shows {
@@ -33,7 +33,7 @@ struct GaugeLines<'a, G>(&'a G);
 
 impl<G: Gauges> GaugeLines<'_, G> {
     // The lines of a site.
-    fn put_site(&self, pen: &mut Pen<'_>, site: usize) -> Result<(), Short>
+    fn put_site(&self, pen: &mut BufferPen<'_>, site: usize) -> Result<(), Short>
         ensures { Writes pen.old (site_text site 0 (site_row (G.Gauges.readings self.now.0.now) site)) result pen.new }
     {
         for number in 0..self.0.gauges(site) {
@@ -47,7 +47,7 @@ impl<G: Gauges> GaugeLines<'_, G> {
 impl<G: Gauges> Printed for GaugeLines<'_, G> {
     ghost text = { λ s. survey_text (G.Gauges.readings s.0.now) };
 
-    fn put(&self, pen: &mut Pen<'_>) -> Result<(), Short> {
+    fn put(&self, pen: &mut BufferPen<'_>) -> Result<(), Short> {
         for site in 0..self.0.sites() {
             self.put_site(pen, site)?;
         }

@@ -7,7 +7,7 @@ use Rattle.std.proofs.lemmas.Result.{err_from_is_err_and}
 use Rattle.lines.specs.declared.refusal.Short.{Short}
 use Rattle.lines.specs.declared.refusal.Refusal.{Refusal}
 use Rattle.lines.specs.declared.refusal.Refusal.TheVariants.{ShortBuffer}
-use Rattle.lines.specs.declared.pen.Pen.{Pen}
+use Rattle.lines.specs.declared.pen.BufferPen.{BufferPen}
 use Rattle.lines.specs.Writing.{written, written_after, over, Took, Writes}
 
 module _ (at : ℕ) (t out : List ℕ) (h : at + length t ≤ length out) where
@@ -50,12 +50,12 @@ over_joined at [] u out h = ap (λ (c : List ℕ). over (at + 0) u c) (over_noth
 over_joined at (v ∷ vs) u out h = over_over at (v ∷ vs) u out (h (omega arith))
 
 -- room for two pieces, where each that has a byte has room
-join_room : {p q r : Pen} {t u : List ℕ} → Took p t q → Took q u r → 0 < length (t ++ u) → p.at + length (t ++ u) ≤ p.limit
+join_room : {p q r : BufferPen} {t u : List ℕ} → Took p t q → Took q u r → 0 < length (t ++ u) → p.pen.at + length (t ++ u) ≤ p.pen.limit
 join_room {t = t} {u = []} x y h = grind (arith, length-append t [], x.room)
 join_room {t = t} {u = v ∷ vs} x y h = omega (arith, length-append t (v ∷ vs), x.place, x.limit, y.room (omega arith))
 
 -- a piece after another is their join
-pub took_then : {p q r : Pen} {t u : List ℕ} → Took p t q → Took q u r → Took p (t ++ u) r
+pub took_then : {p q r : BufferPen} {t u : List ℕ} → Took p t q → Took q u r → Took p (t ++ u) r
 took_then {p} {q} {r} {t} {u} x y =
     let l : length (t ++ u) ≡ length t + length u = length-append t u in
     record {
@@ -64,34 +64,34 @@ took_then {p} {q} {r} {t} {u} x y =
       place = omega (arith, x.place, y.place);
       limit = y.limit ∙ x.limit;
       wrote = λ h.
-          let k : 0 < length t → p.at + length t ≤ length p.out.now = λ some. omega (arith, x.room some) in
-          let w : q.out.now ≡ over p.at t p.out.now = x.wrote h in
-          let m : q.limit ≤ length q.out.now = omega (arith, ap length w, length_kept p.at t p.out.now k, x.limit) in
-          y.wrote m ∙ ap (λ n. over n u q.out.now) x.place ∙ ap (λ (c : List ℕ). over (p.at + length t) u c) w ∙ over_joined p.at t u p.out.now k;
+          let k : 0 < length t → p.pen.at + length t ≤ length p.out.now = λ some. omega (arith, x.room some) in
+          let w : q.out.now ≡ over p.pen.at t p.out.now = x.wrote h in
+          let m : q.pen.limit ≤ length q.out.now = omega (arith, ap length w, length_kept p.pen.at t p.out.now k, x.limit) in
+          y.wrote m ∙ ap (λ n. over n u q.out.now) x.place ∙ ap (λ (c : List ℕ). over (p.pen.at + length t) u c) w ∙ over_joined p.pen.at t u p.out.now k;
     }
 
 -- no text yet
-pub begins : (p : Pen) → Took p [] p
+pub begins : (p : BufferPen) → Took p [] p
 begins p =
     record {
       same = refl;
       room = λ h. absurd (omega arith);
       place = omega arith;
       limit = refl;
-      wrote = λ _. sym (over_nothing p.at p.out.now);
+      wrote = λ _. sym (over_nothing p.pen.at p.out.now);
     }
 
-pub then : {p q r : Pen} {t u : List ℕ} {e : Result Unit Short} → Took p t q → Writes q u e r → Writes p (t ++ u) e r
+pub then : {p q r : BufferPen} {t u : List ℕ} {e : Result Unit Short} → Took p t q → Writes q u e r → Writes p (t ++ u) e r
 then {e = Ok v} x y = record { ended = took_then x y.ended }
 then {p} {q} {r} {t} {u} {e = Err v} x y =
     record { ended = (y.ended.0 ∙ x.same, omega (arith, length-append t u, x.place, x.limit, y.ended.1)) }
 
 -- a piece that does not fit leaves no room for what begins with it
-pub stops : {p q : Pen} {e : Result Unit Short} (t u : List ℕ) → is_err e ≡ true → (q.out.ghost_name ≡ p.out.ghost_name) × (p.limit < p.at + length t) → Writes p (t ++ u) e q
+pub stops : {p q : BufferPen} {e : Result Unit Short} (t u : List ℕ) → is_err e ≡ true → (q.out.ghost_name ≡ p.out.ghost_name) × (p.pen.limit < p.pen.at + length t) → Writes p (t ++ u) e q
 stops {e = Ok v} t u x y = absurd (grind arith)
 stops {p} {q} {e = Err v} t u x y = record { ended = (y.0, omega (arith, length-append t u, y.1)) }
 
-pub stops_whole : {p q : Pen} {t : List ℕ} {e : Result Unit Short} → is_err e ≡ true → (q.out.ghost_name ≡ p.out.ghost_name) × (p.limit < p.at + length t) → Writes p t e q
+pub stops_whole : {p q : BufferPen} {t : List ℕ} {e : Result Unit Short} → is_err e ≡ true → (q.out.ghost_name ≡ p.out.ghost_name) × (p.pen.limit < p.pen.at + length t) → Writes p t e q
 stops_whole {e = Ok v} x y = absurd (grind arith)
 stops_whole {e = Err v} x y = record { ended = y }
 
@@ -100,23 +100,23 @@ reaches [] h e m = omega arith
 reaches (v ∷ vs) h e m = omega (arith, h (omega arith))
 
 -- a text that does not fit is refused, and the buffer stays as it is
-module _ (text : List ℕ) (p : Pen) (out : List ℕ) (o : p.out.now ≡ out) (a : p.at ≡ 0) (l : p.limit ≡ length out) where
-  passes : p.limit < p.at + length text → leb (length text) (length out) ≡ false
+module _ (text : List ℕ) (p : BufferPen) (out : List ℕ) (o : p.out.now ≡ out) (a : p.pen.at ≡ 0) (l : p.pen.limit ≡ length out) where
+  passes : p.pen.limit < p.pen.at + length text → leb (length text) (length out) ≡ false
   passes h = lt-leb (length text) (length out) (omega arith)
 
-  pub refuses : {r : Result ℕ Refusal} → p.limit < p.at + length text → IsErrAnd r (λ e. e ≡ ShortBuffer) → r ≡ written text out
+  pub refuses : {r : Result ℕ Refusal} → p.pen.limit < p.pen.at + length text → IsErrAnd r (λ e. e ≡ ShortBuffer) → r ≡ written text out
   refuses {r} h by = let e = err_from_is_err_and r by in e.1 ∙ ap (λ (y : Refusal). Err y) e.2 ∙ sym (rw (passes h))
 
-  pub keeps : p.limit < p.at + length text → out ≡ written_after text out
+  pub keeps : p.pen.limit < p.pen.at + length text → out ≡ written_after text out
   keeps h = sym (rw (passes h))
 
   -- one that fits is written whole, and the bytes behind it stay
-  module _ {q : Pen} (t : Took p text q) where
+  module _ {q : BufferPen} (t : Took p text q) where
     fits : leb (length text) (length out) ≡ true
     fits = le-leb (length text) (length out) (reaches text t.room a l)
 
-    pub fills : Ok q.at ≡ written text out
-    fills = let e : q.at ≡ length text = omega (arith, t.place) in ap (λ n. Ok n) e ∙ sym (rw fits)
+    pub fills : Ok q.pen.at ≡ written text out
+    fills = let e : q.pen.at ≡ length text = omega (arith, t.place) in ap (λ n. Ok n) e ∙ sym (rw fits)
 
     pub fills_after : q.out.now ≡ written_after text out
     fills_after =

@@ -3,7 +3,7 @@ use Rattle.std.specs.Prelude.{◌≡◌, ℕ, ◌+◌, ◌<◌, ◌≤◌, cond,
 use Rattle.lines.specs.declared.refusal.Short.{Short}
 use Rattle.lines.specs.declared.refusal.Refusal.{Refusal}
 use Rattle.lines.specs.declared.refusal.Refusal.TheVariants.{ShortBuffer}
-use Rattle.lines.specs.declared.pen.Pen.{Pen}
+use Rattle.lines.specs.declared.pen.BufferPen.{BufferPen}
 
 -- what a call that writes a text into a buffer answers: its length, or that the buffer is shorter
 abbrev pub written : List ℕ → List ℕ → Result ℕ Refusal
@@ -19,17 +19,17 @@ over at text out = take at out ++ (text ++ drop (at + length text) out)
 
 -- A text was taken: the pen stands behind it, over the same buffer, and a buffer that reaches to the limit has the text. A text with no
 -- byte is taken anywhere.
-pub record Took (p : Pen) (text : List ℕ) (q : Pen) : Type 0 where
+pub record Took (p : BufferPen) (text : List ℕ) (q : BufferPen) : Type 0 where
   pub same : q.out.ghost_name ≡ p.out.ghost_name
-  pub room : 0 < length text → p.at + length text ≤ p.limit
-  pub place : q.at ≡ p.at + length text
-  pub limit : q.limit ≡ p.limit
-  pub wrote : p.limit ≤ length p.out.now → q.out.now ≡ over p.at text p.out.now
+  pub room : 0 < length text → p.pen.at + length text ≤ p.pen.limit
+  pub place : q.pen.at ≡ p.pen.at + length text
+  pub limit : q.pen.limit ≡ p.pen.limit
+  pub wrote : p.pen.limit ≤ length p.out.now → q.out.now ≡ over p.pen.at text p.out.now
 
-abbrev Ended : Pen → List ℕ → Result Unit Short → Pen → Type 0
+abbrev Ended : BufferPen → List ℕ → Result Unit Short → BufferPen → Type 0
 Ended p text (Ok u) q = Took p text q
-Ended p text (Err e) q = (q.out.ghost_name ≡ p.out.ghost_name) × (p.limit < p.at + length text)
+Ended p text (Err e) q = (q.out.ghost_name ≡ p.out.ghost_name) × (p.pen.limit < p.pen.at + length text)
 
 -- a piece of text is taken, or it would pass the limit
-pub record Writes (p : Pen) (text : List ℕ) (r : Result Unit Short) (q : Pen) : Type 0 where
+pub record Writes (p : BufferPen) (text : List ℕ) (r : Result Unit Short) (q : BufferPen) : Type 0 where
   pub ended : Ended p text r q

@@ -4,7 +4,7 @@ ghost use Rattle.std.specs.Prelude.{◌≡◌};
 ghost use Rattle.lines.specs.Refusals.{text_code, check_code, table_kind, instrument_kind, site_named, number_named, run_code, register_code, image_code, code, refused_line};
 ghost use Rattle.lines.specs.Writing.{written, written_after};
 
-use crate::pen::Pen;
+use crate::pen::BufferPen;
 use crate::refusal::*;
 use crate::writing::Printed;
 
@@ -40,12 +40,12 @@ impl CheckFault {
     }
 }
 
-impl From<Table> for u16 {
-    ghost from_gives = { λ t n. n ≡ table_kind t };
-
+impl Table {
     // The kinds of tables have numbers.
-    fn from(table: Table) -> u16 {
-        match table {
+    pub fn kind(self) -> u16
+        ensures { result ≡ table_kind self }
+    {
+        match self {
             Table::Frames => 1,
             Table::Bindings => 2,
             Table::Pairs => 3,
@@ -55,15 +55,31 @@ impl From<Table> for u16 {
     }
 }
 
-impl From<Instrument> for u16 {
-    ghost from_gives = { λ i n. n ≡ instrument_kind i };
+impl From<Table> for u16 {
+    ghost from_gives = { λ t n. n ≡ table_kind t };
 
+    fn from(table: Table) -> u16 {
+        table.kind()
+    }
+}
+
+impl Instrument {
     // A gauge is 0, a gate is 1.
-    fn from(instrument: Instrument) -> u16 {
-        match instrument {
+    pub fn kind(self) -> u16
+        ensures { result ≡ instrument_kind self }
+    {
+        match self {
             Instrument::Gauge => 0,
             Instrument::Gate => 1,
         }
+    }
+}
+
+impl From<Instrument> for u16 {
+    ghost from_gives = { λ i n. n ≡ instrument_kind i };
+
+    fn from(instrument: Instrument) -> u16 {
+        instrument.kind()
     }
 }
 
@@ -161,7 +177,7 @@ struct Refused(Refusal);
 impl Printed for Refused {
     ghost text = { λ r. refused_line r.0 };
 
-    fn put(&self, pen: &mut Pen<'_>) -> Result<(), Short> {
+    fn put(&self, pen: &mut BufferPen<'_>) -> Result<(), Short> {
         let (number, first) = self.0.code();
         pen.numbered(b"(refused ", number as usize)?;
         pen.numbered(b" ", first)?;

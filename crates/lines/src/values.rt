@@ -3,13 +3,13 @@ ghost use Rattle.std.specs.Prelude.{◌≡◌};
 ghost use Rattle.lines.specs.Refusals.{run_code, values_text, code, refusal_line};
 ghost use Rattle.lines.specs.Writing.{Writes, written, written_after};
 
-use crate::pen::Pen;
+use crate::pen::BufferPen;
 use crate::refusal::*;
 use crate::writing::Printed;
 
 impl RunFault {
     // The values that it names after the first: gauge or gate, number and steps, or site and steps.
-    fn put_others(self, pen: &mut Pen<'_>) -> Result<(), Short>
+    fn put_others(self, pen: &mut BufferPen<'_>) -> Result<(), Short>
         ensures { Writes pen.old (values_text (run_code self).others) result pen.new }
     {
         match self.fault {
@@ -28,7 +28,7 @@ impl RunFault {
 
 impl Refusal {
     // The values that it names after the first.
-    fn put_others(self, pen: &mut Pen<'_>) -> Result<(), Short>
+    fn put_others(self, pen: &mut BufferPen<'_>) -> Result<(), Short>
         ensures { Writes pen.old (values_text (code self).others) result pen.new }
     {
         match self {
@@ -51,7 +51,7 @@ impl Refusal {
 impl Printed for Refusal {
     ghost text = { refusal_line };
 
-    fn put(&self, pen: &mut Pen<'_>) -> Result<(), Short> {
+    fn put(&self, pen: &mut BufferPen<'_>) -> Result<(), Short> {
         let (number, first) = self.code();
         pen.numbered(b"(refused ", number as usize)?;
         pen.numbered(b" ", first)?;

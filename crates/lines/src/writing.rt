@@ -2,52 +2,42 @@
 ghost use Rattle.std.specs.Prelude.{◌≡◌, ◌+◌, ◌<◌, ◌≤◌, List, ℕ, ◌++◌, length, decimal, is_err, true};
 ghost use Rattle.lines.specs.Writing.{Writes, written, written_after};
 
-use crate::pen::Pen;
+use crate::pen::{BufferPen, Pen};
 use crate::refusal::{Refusal, Short};
-use itoa::Buffer;
 
-impl<'a> Pen<'a> {
-    // A pen at the start of a text that has to end at the limit.
-    pub fn new(out: &'a mut [u8], limit: usize) -> Pen<'a>
+impl<'a> BufferPen<'a> {
+    // A pen at the start of a text that goes into the buffer and has to end at the limit.
+    pub fn new(out: &'a mut [u8], limit: usize) -> BufferPen<'a>
         ensures same { result.out.ghost_name ≡ out.entry.ghost_name }
         ensures out { result.out.now ≡ out.old }
-        ensures at { result.at ≡ 0 }
-        ensures limit { result.limit ≡ limit }
+        ensures at { result.pen.at ≡ 0 }
+        ensures limit { result.pen.limit ≡ limit }
     {
-        Pen { out, at: 0, limit }
+        let pen = Pen::new(limit);
+        BufferPen { out, pen }
     }
 
     // Takes a word. One that would pass the limit changes nothing; where the buffer does not reach, only the pen moves.
     pub fn word(&mut self, word: &[u8]) -> Result<(), Short>
         ensures writes { Writes self.old word.now result self.new }
-        ensures short { self.old.limit < self.old.at + length word.now → (is_err result ≡ true) × (self.new ≡ self.old) }
-        ensures kept { length self.old.out.now < self.old.at + length word.now → self.new.out.now ≡ self.old.out.now }
+        ensures short { self.old.pen.limit < self.old.pen.at + length word.now → (is_err result ≡ true) × (self.new ≡ self.old) }
+        ensures kept { length self.old.out.now < self.old.pen.at + length word.now → self.new.out.now ≡ self.old.out.now }
     {
-        if self.at > self.limit || self.limit - self.at < word.len() {
-            return Err(Short);
-        }
-        let end = self.at + word.len();
-        if end <= self.out.len() {
-            self.out[self.at..end].copy_from_slice(word);
-        }
-        self.at = end;
-        Ok(())
+        self.pen.word(self.out, word)
     }
 
     // Takes a number in decimal.
     pub fn number(&mut self, n: usize) -> Result<(), Short>
         ensures { Writes self.old (decimal n) result self.new }
     {
-        let mut digits = Buffer::new();
-        self.word(digits.format(n).as_bytes())
+        self.pen.number(self.out, n)
     }
 
     // Takes a word and a number.
     pub fn numbered(&mut self, word: &[u8], n: usize) -> Result<(), Short>
         ensures { Writes self.old (word.now ++ decimal n) result self.new }
     {
-        self.word(word)?;
-        self.number(n)
+        self.pen.numbered(self.out, word, n)
     }
 }
 
@@ -57,7 +47,7 @@ pub trait Printed {
     ghost text: { Self → List ℕ };
 
     // Puts the text behind what the pen has written.
-    fn put(&self, pen: &mut Pen<'_>) -> Result<(), Short>
+    fn put(&self, pen: &mut BufferPen<'_>) -> Result<(), Short>
         ensures { Writes pen.old (text self.now) result pen.new };
 
     // Writes the text into a buffer, and answers its length. A buffer that is too short stays as it is.
@@ -67,9 +57,9 @@ pub trait Printed {
     {
         let limit = out.len();
         let mut nothing = [0u8; 0];
-        self.put(&mut Pen::new(&mut nothing, limit))?;
-        let mut pen = Pen::new(out, limit);
+        self.put(&mut BufferPen::new(&mut nothing, limit))?;
+        let mut pen = BufferPen::new(out, limit);
         self.put(&mut pen)?;
-        Ok(pen.at)
+        Ok(pen.pen.at)
     }
 }

@@ -67,7 +67,7 @@ module _ (P : Program) (S : Sheet) (s : State) (v : Works) (h : Holds P S s) (a 
       λ k. subst (λ o. Onward o (λ L x. (Machine.stands_at L < length S) × Agrees S x × SafeFor k P S L)) w.1 (h.safe (suc k) v a on) in
       (record { stations_are = g.0 ∙ h.stations_are; safe = λ k. (next k).2 }, (next 0).1)
 
-less_one : (n b : ℕ) → n < b → b - n ≡ suc (b - (n + 1))
+pub less_one : (n b : ℕ) → n < b → b - n ≡ suc (b - (n + 1))
 less_one n b l = omega arith
 
 at_zero : (n : ℕ) (e : Ending) (v : Works) (M : Machine.State) (ms : Marks) → record { ending = e; steps = n; works = v; end = M; marks = ms } ≡ past n (ran_by ms (stop e v M))

@@ -146,7 +146,7 @@ module _ (s : State) (old new : SiteRow) (was : get_elem? s.store.rows s.site �
     kept_is : (c : ℕ) → c ≡ length old.kept.items → c ≡ count (sites_of s).kept s.site
     kept_is c c-is = c-is ∙ sym (map_length (continuation_of (chains_of s)) old.kept.items) ∙ sym (ap length (site_row (kept_of (chains_of s)) s.store.rows s.stations s.site old (sound s).site_in was))
 
-    kept_store : StoreIn set_here
+    pub kept_store : StoreIn set_here
     kept_store = store_set s.store s.site new (sound s).store_in kept_row
 
     set_gone : (w a : ℕ) (e : Environment) → w < s.stations → EnvironmentIn (length cs) e → (c : ℕ) → c ≡ length old.kept.items → (t : Store) → t ≡ set_here → Makes s.stations w (Cont.Return s.site c) (Now.Eval a e) t (Machine.state (Machine.keep (sites_of s) s.site (over s s.continuation)) w (Machine.return s.site (count (sites_of s).kept s.site)) (Machine.eval a (scope s e)) (places_of s))

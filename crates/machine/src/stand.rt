@@ -7,7 +7,7 @@ ghost use Rattle.machine.specs.StandLine.{kept_places, published_places, work_of
 
 use crate::marks::Marks;
 use crate::parts::*;
-use lines::pen::Pen;
+use lines::pen::BufferPen;
 use lines::refusal::{Refusal, Short};
 use lines::writing::Printed;
 
@@ -57,7 +57,7 @@ impl Work {
 impl Printed for Stand {
     ghost text = { λ s. stand_line (stand_told s) };
 
-    fn put(&self, pen: &mut Pen<'_>) -> Result<(), Short> {
+    fn put(&self, pen: &mut BufferPen<'_>) -> Result<(), Short> {
         pen.numbered(b"(stand ", self.site as usize)?;
         pen.word(b" ")?;
         pen.word(self.work.word())?;

@@ -69,8 +69,11 @@ impl Store {
 }
 
 impl State {
-    // A state to start programs in, with no place taken.
-    pub(crate) fn new(heap: Global) -> Result<State, AllocError> {
+    // A state to start programs in, with no place taken: the start of a program of one site.
+    pub(crate) fn new(heap: Global) -> Result<State, AllocError>
+        ensures stations { IfOk result (λ s. s.stations ≡ 1) }
+        ensures means { IfOk result (λ s. (P : Program) → length P.sheet ≡ 1 → P.start ≡ 0 → state_of s ≡ machine_started P) }
+    {
         Ok(State {
             stations: 1,
             site: 0,

@@ -6,12 +6,12 @@ ghost use Rattle.machine.specs.Sound.{Each, CellIn, ValueIn, EnvironmentIn, Boun
 ghost use Rattle.machine.specs.Texts.{one_text, two_text, value_text, bindings_text, bound_text, answer_line};
 
 use crate::parts::*;
-use lines::pen::Pen;
+use lines::pen::BufferPen;
 use lines::refusal::Short;
 use lines::writing::Printed;
 
 // A word with a number, and the bracket that closes it.
-fn put_one(pen: &mut Pen<'_>, word: &[u8], number: u16) -> Result<(), Short>
+fn put_one(pen: &mut BufferPen<'_>, word: &[u8], number: u16) -> Result<(), Short>
     ensures { Writes pen.old (one_text word.now number) result pen.new }
 {
     pen.numbered(word, number as usize)?;
@@ -19,7 +19,7 @@ fn put_one(pen: &mut Pen<'_>, word: &[u8], number: u16) -> Result<(), Short>
 }
 
 // A word with two numbers, and the bracket that closes it.
-fn put_two(pen: &mut Pen<'_>, word: &[u8], first: u16, second: u16) -> Result<(), Short>
+fn put_two(pen: &mut BufferPen<'_>, word: &[u8], first: u16, second: u16) -> Result<(), Short>
     ensures { Writes pen.old (two_text word.now first second) result pen.new }
 {
     pen.numbered(word, first as usize)?;
@@ -37,7 +37,7 @@ pub(crate) struct Cells<'a> {
 impl Cells<'_> {
     // A value.
     #[cycle(put_bindings_put_bound_put_closure_put_pair_put_value)]
-    fn put_value(self, pen: &mut Pen<'_>, value: Value) -> Result<(), Short>
+    fn put_value(self, pen: &mut BufferPen<'_>, value: Value) -> Result<(), Short>
         requires { ValueIn self.cells.now (length self.cells.now) value }
         ensures { Writes pen.old (value_text (value_of (meanings self.entry.cells.now) value)) result pen.new }
     {
@@ -64,7 +64,7 @@ impl Cells<'_> {
     #[cycle(put_bindings_put_bound_put_closure_put_pair_put_value)]
     fn put_closure(
         self,
-        pen: &mut Pen<'_>,
+        pen: &mut BufferPen<'_>,
         word: &[u8],
         term: u16,
         environment: Environment,
@@ -79,7 +79,7 @@ impl Cells<'_> {
 
     // The pair in a cell.
     #[cycle(put_bindings_put_bound_put_closure_put_pair_put_value)]
-    fn put_pair(self, pen: &mut Pen<'_>, place: u16) -> Result<(), Short>
+    fn put_pair(self, pen: &mut BufferPen<'_>, place: u16) -> Result<(), Short>
         requires place { place < length self.cells.now }
         requires pair { pair_at self.cells.now place ≡ true }
         ensures { Writes pen.old (value_text (value_of (meanings self.entry.cells.now) (Value.Pair place))) result pen.new }
@@ -96,7 +96,7 @@ impl Cells<'_> {
 
     // A chain of bindings, the innermost first.
     #[cycle(put_bindings_put_bound_put_closure_put_pair_put_value)]
-    fn put_bindings(self, pen: &mut Pen<'_>, environment: Environment) -> Result<(), Short>
+    fn put_bindings(self, pen: &mut BufferPen<'_>, environment: Environment) -> Result<(), Short>
         requires { EnvironmentIn (length self.cells.now) environment }
         ensures { Writes pen.old (bindings_text (environment_of (meanings self.entry.cells.now) environment)) result pen.new }
     {
@@ -113,7 +113,7 @@ impl Cells<'_> {
 
     // What one binding binds.
     #[cycle(put_bindings_put_bound_put_closure_put_pair_put_value)]
-    fn put_bound(self, pen: &mut Pen<'_>, bound: Bound) -> Result<(), Short>
+    fn put_bound(self, pen: &mut BufferPen<'_>, bound: Bound) -> Result<(), Short>
         requires { BoundIn self.cells.now (length self.cells.now) bound }
         ensures { Writes pen.old (bound_text (meanings self.entry.cells.now) bound) result pen.new }
     {
@@ -137,7 +137,7 @@ pub(crate) struct Answer<'a> {
 impl Printed for Answer<'_> {
     ghost text = { λ a. answer_line (value_of (meanings a.cells.cells.now) a.value) };
 
-    fn put(&self, pen: &mut Pen<'_>) -> Result<(), Short> {
+    fn put(&self, pen: &mut BufferPen<'_>) -> Result<(), Short> {
         pen.word(b"(answer ")?;
         self.cells.put_value(pen, self.value)?;
         pen.word(b")\n")

@@ -9,7 +9,7 @@ ghost use Rattle.syntax.specs.Views.{type_form, term_form, get_form};
 use crate::grammar::Form;
 use crate::program::{Mobile, Term, Ty, World};
 use crate::table::Program;
-use lines::pen::Pen;
+use lines::pen::BufferPen;
 use lines::refusal::Short;
 use lines::writing::Printed;
 
@@ -71,7 +71,7 @@ impl Mobile {
 impl Printed for World {
     ghost text = { world_text };
 
-    fn put(&self, pen: &mut Pen<'_>) -> Result<(), Short> {
+    fn put(&self, pen: &mut BufferPen<'_>) -> Result<(), Short> {
         match *self {
             World::Site(site) => {
                 pen.numbered(b"(site ", site as usize)?;
@@ -96,7 +96,7 @@ enum Part {
 
 impl Program {
     #[cycle(put_part_put_parts_put_term_put_term_parts_put_type_put_type_parts)]
-    fn put_part(&self, pen: &mut Pen<'_>, part: Part, left: usize) -> Result<(), Short>
+    fn put_part(&self, pen: &mut BufferPen<'_>, part: Part, left: usize) -> Result<(), Short>
         ensures { Writes pen.old (part_text left (tables self.now) part) result pen.new }
     {
         match part {
@@ -109,7 +109,7 @@ impl Program {
 
     // Parts with a space between each two.
     #[cycle(put_part_put_parts_put_term_put_term_parts_put_type_put_type_parts)]
-    fn put_parts(&self, pen: &mut Pen<'_>, parts: &[Part], left: usize) -> Result<(), Short>
+    fn put_parts(&self, pen: &mut BufferPen<'_>, parts: &[Part], left: usize) -> Result<(), Short>
         requires { length parts.now ≤ 5 }
         ensures { Writes pen.old (joined (map (part_text left (tables self.now)) parts.now)) result pen.new }
     {
@@ -125,7 +125,7 @@ impl Program {
     }
 
     #[cycle(put_part_put_parts_put_term_put_term_parts_put_type_put_type_parts)]
-    fn put_type_parts(&self, pen: &mut Pen<'_>, node: Ty, left: usize) -> Result<(), Short>
+    fn put_type_parts(&self, pen: &mut BufferPen<'_>, node: Ty, left: usize) -> Result<(), Short>
         ensures { Writes pen.old (type_inner node (type_text left (tables self.now).types)) result pen.new }
     {
         match node {
@@ -142,7 +142,7 @@ impl Program {
 
     // The type with a number, to a depth.
     #[cycle(put_part_put_parts_put_term_put_term_parts_put_type_put_type_parts)]
-    fn put_type(&self, pen: &mut Pen<'_>, number: u16, left: usize) -> Result<(), Short>
+    fn put_type(&self, pen: &mut BufferPen<'_>, number: u16, left: usize) -> Result<(), Short>
         ensures { Writes pen.old (type_text left (tables self.now).types number) result pen.new }
     {
         if left == 0 {
@@ -156,7 +156,7 @@ impl Program {
     }
 
     #[cycle(put_part_put_parts_put_term_put_term_parts_put_type_put_type_parts)]
-    fn put_term_parts(&self, pen: &mut Pen<'_>, node: Term, left: usize) -> Result<(), Short>
+    fn put_term_parts(&self, pen: &mut BufferPen<'_>, node: Term, left: usize) -> Result<(), Short>
         ensures { Writes pen.old (term_inner node (type_text left (tables self.now).types) (term_text left (tables self.now).types (tables self.now).terms)) result pen.new }
     {
         match node {
@@ -237,7 +237,7 @@ impl Program {
 
     // The term with a number, to a depth.
     #[cycle(put_part_put_parts_put_term_put_term_parts_put_type_put_type_parts)]
-    pub(crate) fn put_term(&self, pen: &mut Pen<'_>, number: u16, left: usize) -> Result<(), Short>
+    pub(crate) fn put_term(&self, pen: &mut BufferPen<'_>, number: u16, left: usize) -> Result<(), Short>
         ensures { Writes pen.old (term_text left (tables self.now).types (tables self.now).terms number) result pen.new }
     {
         if left == 0 {

@@ -7,11 +7,11 @@ ghost use Rattle.syntax.specs.Spelt.{station_line, station_lines, text_of, writt
 use crate::table::Program;
 use crate::text::Text;
 use instruments::sheet::Station;
-use lines::pen::Pen;
+use lines::pen::BufferPen;
 use lines::refusal::{Refusal, Short};
 use lines::writing::Printed;
 
-fn put_station(pen: &mut Pen<'_>, station: Station) -> Result<(), Short>
+fn put_station(pen: &mut BufferPen<'_>, station: Station) -> Result<(), Short>
     ensures { Writes pen.old (station_line station) result pen.new }
 {
     pen.numbered(b"(station ", station.gauges as usize)?;
@@ -20,7 +20,7 @@ fn put_station(pen: &mut Pen<'_>, station: Station) -> Result<(), Short>
 }
 
 impl Program {
-    fn put_stations(&self, pen: &mut Pen<'_>) -> Result<(), Short>
+    fn put_stations(&self, pen: &mut BufferPen<'_>) -> Result<(), Short>
         ensures { Writes pen.old (station_lines (tables self.now).stations) result pen.new }
     {
         for station in self.sheet.stations() {
@@ -33,7 +33,7 @@ impl Program {
 impl Printed for Program {
     ghost text = { λ p. text_of (tables p) };
 
-    fn put(&self, pen: &mut Pen<'_>) -> Result<(), Short> {
+    fn put(&self, pen: &mut BufferPen<'_>) -> Result<(), Short> {
         self.put_stations(pen)?;
         pen.numbered(b"(run ", self.start as usize)?;
         pen.word(b" ")?;
