@@ -15,25 +15,23 @@ use syntax::program::Ty;
 // Not the writer of program texts: here built types stand behind the written ones, and no depth bounds them. That a part is in the table
 // is asked by one line each: a struct of table and number would be made anew for each part.
 impl TypeRows<'_> {
-    // A word, a type and the bracket that closes it.
+    // A type and the bracket behind it. The words before stand where they are put: a word that is handed on is copied as of any length.
     #[cycle(put_put_one_put_two)]
-    fn put_one(self, pen: &mut BufferPen<'_>, word: &[u8], part: u16) -> Result<(), Short>
-        requires { part < length self.rows.now }
-        ensures { Writes pen.old (word.now ++ (type_text (meaning self.entry.written self.entry.rows.now part) ++ codes ")")) result pen.new }
+    fn put_one(&self, pen: &mut BufferPen<'_>, part: u16) -> Result<(), Short>
+        requires { part < length self.now.rows.now }
+        ensures { Writes pen.old (type_text (meaning self.now.written self.now.rows.now part) ++ codes ")") result pen.new }
     {
-        pen.word(word)?;
         self.put(pen, part)?;
         pen.word(b")")
     }
 
-    // A word, two types and the bracket that closes it.
+    // Two types with a space between, and the bracket behind them.
     #[cycle(put_put_one_put_two)]
-    fn put_two(self, pen: &mut BufferPen<'_>, word: &[u8], left: u16, right: u16) -> Result<(), Short>
-        requires left { left < length self.rows.now }
-        requires right { right < length self.rows.now }
-        ensures { Writes pen.old (word.now ++ (type_text (meaning self.entry.written self.entry.rows.now left) ++ (codes " " ++ (type_text (meaning self.entry.written self.entry.rows.now right) ++ codes ")")))) result pen.new }
+    fn put_two(&self, pen: &mut BufferPen<'_>, left: u16, right: u16) -> Result<(), Short>
+        requires left { left < length self.now.rows.now }
+        requires right { right < length self.now.rows.now }
+        ensures { Writes pen.old (type_text (meaning self.now.written self.now.rows.now left) ++ (codes " " ++ (type_text (meaning self.now.written self.now.rows.now right) ++ codes ")"))) result pen.new }
     {
-        pen.word(word)?;
         self.put(pen, left)?;
         pen.word(b" ")?;
         self.put(pen, right)?;
@@ -42,17 +40,29 @@ impl TypeRows<'_> {
 
     // The type with a number.
     #[cycle(put_put_one_put_two)]
-    fn put(self, pen: &mut BufferPen<'_>, number: u16) -> Result<(), Short>
-        requires { number < length self.rows.now }
-        ensures { Writes pen.old (type_text (meaning self.entry.written self.entry.rows.now number)) result pen.new }
+    fn put(&self, pen: &mut BufferPen<'_>, number: u16) -> Result<(), Short>
+        requires { number < length self.now.rows.now }
+        ensures { Writes pen.old (type_text (meaning self.now.written self.now.rows.now number)) result pen.new }
     {
         match self.rows[number as usize] {
             Ty::Num => pen.word(b"num"),
             Ty::Never => pen.word(b"none"),
-            Ty::Fn { from, to } => self.put_two(pen, b"(fn ", from, to),
-            Ty::Both { left, right } => self.put_two(pen, b"(both ", left, right),
-            Ty::Boxed(part) => self.put_one(pen, b"(box ", part),
-            Ty::At(part) => self.put_one(pen, b"(at ", part),
+            Ty::Fn { from, to } => {
+                pen.word(b"(fn ")?;
+                self.put_two(pen, from, to)
+            }
+            Ty::Both { left, right } => {
+                pen.word(b"(both ")?;
+                self.put_two(pen, left, right)
+            }
+            Ty::Boxed(part) => {
+                pen.word(b"(box ")?;
+                self.put_one(pen, part)
+            }
+            Ty::At(part) => {
+                pen.word(b"(at ")?;
+                self.put_one(pen, part)
+            }
         }
     }
 }

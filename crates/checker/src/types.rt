@@ -19,10 +19,10 @@ pub(crate) struct TypeRows<'a> {
 impl TypeRows<'_> {
     // Whether type `a` of a table is the written type `b`: their words agree and their parts are equal in turn. It goes along the
     // written type, whose parts have larger numbers.
-    pub(crate) fn same(self, a: u16, b: u16) -> bool
-        requires left { a < length self.rows.now }
-        requires right { b < self.written }
-        ensures { result ≡ alike (meaning self.entry.written self.entry.rows.now a) (meaning self.entry.written self.entry.rows.now b) }
+    pub(crate) fn same(&self, a: u16, b: u16) -> bool
+        requires left { a < length self.now.rows.now }
+        requires right { b < self.now.written }
+        ensures { result ≡ alike (meaning self.now.written self.now.rows.now a) (meaning self.now.written self.now.rows.now b) }
     {
         match (self.rows[a as usize], self.rows[b as usize]) {
             (Ty::Num, Ty::Num) => true,
