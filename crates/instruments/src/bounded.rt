@@ -1,7 +1,7 @@
 // A list of at most `N` items that lies in the value itself. It is `Copy`, as `ArrayVec` is not, whose `clone` may lack memory.
 #![tactic(auto, using(crate::proofs::Slots::in_slots))]
 
-ghost use Rattle.std.specs.Prelude.{◌≡◌, ◌≤◌, ⊤, length};
+ghost use Rattle.std.specs.Prelude.{◌≡◌, ◌≤◌, length};
 
 use std::alloc::AllocError;
 
@@ -16,10 +16,6 @@ pub(crate) struct Bounded<T: Copy, const N: usize> {
 impl<T: Copy, const N: usize> Copy for Bounded<T, N> {}
 
 impl<T: Copy, const N: usize> Clone for Bounded<T, N> {
-    ghost is_clone = { λ x y. y ≡ x };
-
-    ghost is_infallible = { λ _. ⊤ };
-
     fn clone(&self) -> Result<Bounded<T, N>, AllocError> {
         Ok(*self)
     }

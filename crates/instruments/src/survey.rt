@@ -9,7 +9,12 @@ use lines::pen::BufferPen;
 use lines::refusal::{Refusal, Short};
 use lines::writing::Printed;
 
-fn put_gauge(pen: &mut BufferPen<'_>, site: usize, number: usize, shows: Option<u16>) -> Result<(), Short>
+fn put_gauge(
+    pen: &mut BufferPen<'_>,
+    site: usize,
+    number: usize,
+    shows: Option<u16>,
+) -> Result<(), Short>
     ensures { Writes pen.old (gauge_line site number shows) result pen.new }
 {
     match shows {

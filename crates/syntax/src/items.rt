@@ -51,7 +51,7 @@ impl Reader<'_> {
         self.ty(draft, depth)
     }
 
-    // A type's parts.
+    // A type's parts. A form and its depth stay two parameters here and below: `begin` makes the form, and the first `match` takes it apart.
     #[cycle(next_type_ty_type_parts)]
     fn type_parts(&mut self, draft: &mut Program, form: Form, depth: usize) -> Result<Ty, TextFault>
         requires form { In (spelling form) form (words Types) }

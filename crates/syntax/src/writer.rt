@@ -237,7 +237,12 @@ impl Program {
 
     // The term with a number, to a depth.
     #[cycle(put_part_put_parts_put_term_put_term_parts_put_type_put_type_parts)]
-    pub(crate) fn put_term(&self, pen: &mut BufferPen<'_>, number: u16, left: usize) -> Result<(), Short>
+    pub(crate) fn put_term(
+        &self,
+        pen: &mut BufferPen<'_>,
+        number: u16,
+        left: usize,
+    ) -> Result<(), Short>
         ensures { Writes pen.old (term_text left (tables self.now).types (tables self.now).terms number) result pen.new }
     {
         if left == 0 {

@@ -11,7 +11,7 @@ returns-clause-after c =
     let same = slot_at fitted_gates items.slots items.count c.args.site fits there c.in_ok-banks.ensures c.index-slots-site.result in
     slot_put fitted_gates items.slots items.count c.args.site fits there c.in_ok-banks.ensures _
     ∙ ap (λ r. set (bench_gates c.args.self.now) c.args.site r)
-      (c.place.ensures.after ∙ ap (λ r. set r c.args.number c.args.shows) (ap fitted_gates same ∙ sym (row_at fitted_gates (take items.count items.slots) c.args.site there c.in_ok-banks.ensures)))
+    (c.place.ensures.after ∙ ap (λ r. set r c.args.number c.args.shows) (ap fitted_gates same ∙ sym (row_at fitted_gates (take items.count items.slots) c.args.site there c.in_ok-banks.ensures)))
 
 pub returns-clause-same : goal.returns-clause-same
 returns-clause-same c =
