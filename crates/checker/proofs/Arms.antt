@@ -90,7 +90,7 @@ next_part {c} {d} {terms} {term} {more} a g s part i z =
 pub row_sound : {c : Context} {terms : List TermRow} {term : ℕ} → Asks c terms term → (row : TermRow) → get_or terms term (Term.Num 0) ≡ row → TermSound c.written (term + 1) (length terms) row
 row_sound {c} {terms} {term} a row e = subst (TermSound c.written (term + 1) (length terms)) e (a.sound term a.within)
 
-pub row_parts : {c : Context} {s : Spot} {row : TermRow} → AsksRow c s row → TermSound c.written (s.term + 1) (length s.terms.now) row
+pub row_parts : {c : Context} {s : Spot} {row : TermRow} → AsksRow c s row → TermSound c.written (s.term + 1) (length s.setting.now.terms.now) row
 row_parts {c} {s} {row} q = row_sound q.asks row q.row
 
 pub verdict_kept : {c d : Context} {more : ℕ} → Ready c → Grown c more d → Same c d → (stations : List Station) (terms : List TermRow) (part : ℕ) (w : At) → verdict d stations terms part w ≡ verdict c stations terms part w
@@ -108,11 +108,11 @@ row_judged {c} {terms} {term} a stations row w e =
 pub row_size : {c : Context} {terms : List TermRow} {term : ℕ} → Asks c terms term → (row : TermRow) → get_or terms term (Term.Num 0) ≡ row → size terms term ≡ with_parts (size terms) row
 row_size {c} {terms} {term} a row e = size_at c.written terms a.sound term row a.within e
 
-pub row_sizes : {c : Context} {s : Spot} {row : TermRow} → AsksRow c s row → size s.terms.now s.term ≡ with_parts (size s.terms.now) row
+pub row_sizes : {c : Context} {s : Spot} {row : TermRow} → AsksRow c s row → size s.setting.now.terms.now s.term ≡ with_parts (size s.setting.now.terms.now) row
 row_sizes {c} {s} {row} q = row_size q.asks row q.row
 
 -- what is asked of the first part of a term
-pub first_part : {c : Context} {s : Spot} {row : TermRow} → AsksRow c s row → (part : ℕ) → Inside (s.term + 1) (length s.terms.now) part → size s.terms.now part ≤ size s.terms.now s.term → Asks c s.terms.now part
+pub first_part : {c : Context} {s : Spot} {row : TermRow} → AsksRow c s row → (part : ℕ) → Inside (s.term + 1) (length s.setting.now.terms.now) part → size s.setting.now.terms.now part ≤ size s.setting.now.terms.now s.term → Asks c s.setting.now.terms.now part
 first_part {c} {s} {row} q part i z = next_part q.asks (grown_none c q.asks.ready) (same_self c) part i (omega arith)
 
 -- a refusal ends it
@@ -197,10 +197,10 @@ stops_held {c} {d} {v} {A} {part} {r} {more} e by q =
     subst (λ (x : Result ℕ CheckFault). Held c v A part x more d) (sym (p.1 ∙ ap (λ (y : CheckFault). Err y) p.2)) (record { answer = q })
 
 -- the verdict on a term by its row
-pub by_row : {c d : Context} {s : Spot} {row : TermRow} {r : Result ℕ CheckFault} → Asks c s.terms.now s.term → get_or s.terms.now s.term (Term.Num 0) ≡ row → JudgesRow c s row r d → Judges c s r d
-by_row {c} {d} {s} {row} {r} a e j =
+pub by_row : {c d : Context} {s : Spot} {w : At} {row : TermRow} {r : Result ℕ CheckFault} → Asks c s.setting.now.terms.now s.term → get_or s.setting.now.terms.now s.term (Term.Num 0) ≡ row → JudgesRow c s row w r d → Judges c s w r d
+by_row {c} {d} {s} {w} {row} {r} a e j =
     record {
-      judged = subst (λ (x : Checked). Judged c x r (size s.terms.now s.term) d) (sym (row_judged a (stations_of s.sheet.now) row s.world e)) j.judged;
+      judged = subst (λ (x : Checked). Judged c x r (size s.setting.now.terms.now s.term) d) (sym (row_judged a (stations_of s.setting.now.sheet.now) row w e)) j.judged;
       same = j.same;
     }
 

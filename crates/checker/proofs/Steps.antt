@@ -30,12 +30,12 @@ pub record Went (c : Context) (v : Checked) (more : ℕ) (d : Context) (u : Chec
   pub same : Same c d
   pub left : v ≡ u
 
-pub begun : {c : Context} {s : Spot} {row : TermRow} → AsksRow c s row → Went c (row_verdict c (stations_of s.sheet.now) s.terms.now s.term row s.world) 0 c (row_verdict c (stations_of s.sheet.now) s.terms.now s.term row s.world)
-begun {c} q = record { grown = grown_none c q.asks.ready; same = same_self c; left = refl }
+pub begun : {c : Context} {s : Spot} {row : TermRow} → AsksRow c s row → (w : At) → Went c (row_verdict c (stations_of s.setting.now.sheet.now) s.setting.now.terms.now s.term row w) 0 c (row_verdict c (stations_of s.setting.now.sheet.now) s.setting.now.terms.now s.term row w)
+begun {c} q w = record { grown = grown_none c q.asks.ready; same = same_self c; left = refl }
 
 -- the verdict on a part of the term at a spot
 abbrev pub part_verdict : Context → Spot → ℕ → At → Checked
-part_verdict c s part w = verdict c (stations_of s.sheet.now) s.terms.now part w
+part_verdict c s part w = verdict c (stations_of s.setting.now.sheet.now) s.setting.now.terms.now part w
 
 module _ {c d : Context} {v : Checked} {m : ℕ} (r : Ready c) (s : Spot) (part : ℕ) (w : At) where
   -- a part was judged
@@ -44,11 +44,11 @@ module _ {c d : Context} {v : Checked} {m : ℕ} (r : Ready c) (s : Spot) (part 
       record {
         grown = grown_then r g.grown g.same t.grown;
         same = same_then g.same q;
-        left = g.left ∙ ap (λ (y : Checked). then_type y k) (sym (verdict_kept r g.grown g.same (stations_of s.sheet.now) s.terms.now part w) ∙ t.verdict);
+        left = g.left ∙ ap (λ (y : Checked). then_type y k) (sym (verdict_kept r g.grown g.same (stations_of s.setting.now.sheet.now) s.setting.now.terms.now part w) ∙ t.verdict);
       }
 
   pub judged_stops : {f : CheckFault} (k : Ty → Checked) → Went c v m d (then_type (part_verdict c s part w) k) → part_verdict d s part w ≡ refused f → v ≡ refused f
-  judged_stops {f} k g t = g.left ∙ ap (λ (y : Checked). then_type y k) (sym (verdict_kept r g.grown g.same (stations_of s.sheet.now) s.terms.now part w) ∙ t)
+  judged_stops {f} k g t = g.left ∙ ap (λ (y : Checked). then_type y k) (sym (verdict_kept r g.grown g.same (stations_of s.setting.now.sheet.now) s.setting.now.terms.now part w) ∙ t)
 
   -- a part was held to the type that it needs
   pub held_next : {e : Context} {x n : ℕ} {A B : Ty} {k : Checked} → Went c v m d (expecting part (part_verdict c s part w) A k) → Fits d (part_verdict d s part w) B part x n e → B ≡ A → Same d e → Went c v (m + n) e k
@@ -56,13 +56,13 @@ module _ {c d : Context} {v : Checked} {m : ℕ} (r : Ready c) (s : Spot) (part 
       record {
         grown = grown_then r g.grown g.same t.grown;
         same = same_then g.same q;
-        left = g.left ∙ ap (λ (y : Checked). expecting part y A k) (sym (verdict_kept r g.grown g.same (stations_of s.sheet.now) s.terms.now part w))
+        left = g.left ∙ ap (λ (y : Checked). expecting part y A k) (sym (verdict_kept r g.grown g.same (stations_of s.setting.now.sheet.now) s.setting.now.terms.now part w))
             ∙ subst (λ (P : Ty). expecting part (part_verdict d s part w) P k ≡ k) b (t.goes k);
       }
 
   pub held_stops : {A B : Ty} {f : CheckFault} (k : Checked) → Went c v m d (expecting part (part_verdict c s part w) A k) → ((j : Checked) → expecting part (part_verdict d s part w) B j ≡ refused f) → B ≡ A → v ≡ refused f
   held_stops {A} {B} {f} k g t b =
-      g.left ∙ ap (λ (y : Checked). expecting part y A k) (sym (verdict_kept r g.grown g.same (stations_of s.sheet.now) s.terms.now part w))
+      g.left ∙ ap (λ (y : Checked). expecting part y A k) (sym (verdict_kept r g.grown g.same (stations_of s.setting.now.sheet.now) s.setting.now.terms.now part w))
       ∙ subst (λ (P : Ty). expecting part (part_verdict d s part w) P k ≡ refused f) b (t k)
 
 -- nothing is left but a type of the table
@@ -70,13 +70,13 @@ pub finished : {c d : Context} {v : Checked} {A : Ty} {m more n : ℕ} → Went 
 finished {c} {d} {v} {A} {m} {more} {n} g h e l = record { number = h; verdict = g.left ∙ ap typed (sym e); grown = grown_more l g.grown }
 
 -- what is asked of the next part
-pub asked_next : {c d : Context} {s : Spot} {row : TermRow} {v u : Checked} {m : ℕ} → AsksRow c s row → Went c v m d u → (part : ℕ) → Inside (s.term + 1) (length s.terms.now) part → m + size s.terms.now part ≤ size s.terms.now s.term → Asks d s.terms.now part
+pub asked_next : {c d : Context} {s : Spot} {row : TermRow} {v u : Checked} {m : ℕ} → AsksRow c s row → Went c v m d u → (part : ℕ) → Inside (s.term + 1) (length s.setting.now.terms.now) part → m + size s.setting.now.terms.now part ≤ size s.setting.now.terms.now s.term → Asks d s.setting.now.terms.now part
 asked_next {c} {d} {s} {row} {v} {u} {m} q g part i l = next_part q.asks g.grown g.same part i (omega arith)
 
 -- a written type stands for what it stood for
-pub written_stays : {c d : Context} {v u : Checked} {m : ℕ} → Ready c → Went c v m d u → (s : Spot) (t : ℕ) → t < c.written → meaning_of d t ≡ type_of (checked_program c (stations_of s.sheet.now) s.terms.now) t
+pub written_stays : {c d : Context} {v u : Checked} {m : ℕ} → Ready c → Went c v m d u → (s : Spot) (t : ℕ) → t < c.written → meaning_of d t ≡ type_of (checked_program c (stations_of s.setting.now.sheet.now) s.setting.now.terms.now) t
 written_stays {c} {d} {v} {u} {m} r g s t l =
-    keeps r g.grown g.same t (omega (arith, r.laid.some)) ∙ sym (written_is c r (stations_of s.sheet.now) s.terms.now t l)
+    keeps r g.grown g.same t (omega (arith, r.laid.some)) ∙ sym (written_is c r (stations_of s.setting.now.sheet.now) s.setting.now.terms.now t l)
 
 pub written_in : {c d : Context} {v u : Checked} {m : ℕ} → Ready c → Went c v m d u → (t : ℕ) → t < c.written → (t < d.written) × (t < length (rows_of d))
 written_in {c} {d} {v} {u} {m} r g t l = (omega (arith, g.same.kept.written), omega (arith, r.laid.some, more_rows r g.grown g.same))
@@ -107,17 +107,17 @@ located S n there term a k h =
     needs_met (is_known S n (world_there n there)) (Unbound term) (k (world_there n there)) (stands_known S n (world_there n there) h.1) ∙ ap k (sym h.0)
 
 -- the verdict on a body, where b binds more than c
-pub body_verdict : (c b : Context) {Γ : Around} (s : Spot) (body : ℕ) (w : At) → rows_of b ≡ rows_of c → b.written ≡ c.written → context_of b ≡ Γ → judge (checked_program c (stations_of s.sheet.now) s.terms.now) body Γ (world_of w) ≡ part_verdict b s body w
+pub body_verdict : (c b : Context) {Γ : Around} (s : Spot) (body : ℕ) (w : At) → rows_of b ≡ rows_of c → b.written ≡ c.written → context_of b ≡ Γ → judge (checked_program c (stations_of s.setting.now.sheet.now) s.setting.now.terms.now) body Γ (world_of w) ≡ part_verdict b s body w
 body_verdict c b {Γ} s body w rows written e =
-    ap (λ (x : Around). judge (checked_program c (stations_of s.sheet.now) s.terms.now) body x (world_of w)) (sym e)
-    ∙ ap (λ (p : Program). judge p body (context_of b) (world_of w)) (sym (same_program c b rows written (stations_of s.sheet.now) s.terms.now))
+    ap (λ (x : Around). judge (checked_program c (stations_of s.setting.now.sheet.now) s.setting.now.terms.now) body x (world_of w)) (sym e)
+    ∙ ap (λ (p : Program). judge p body (context_of b) (world_of w)) (sym (same_program c b rows written (stations_of s.setting.now.sheet.now) s.setting.now.terms.now))
 
 -- what is bound has the type that is written
-pub value_written : {c d : Context} {b : Bound} → Ready c → BoundValue c d b → (s : Spot) → b.ty < c.written → context_of d ≡ binding_value (context_of c) (type_of (checked_program c (stations_of s.sheet.now) s.terms.now) b.ty) (world_of b.world)
-value_written {c} {d} {b} r h s l = value_context h ∙ ap (λ (P : Ty). binding_value (context_of c) P (world_of b.world)) (sym (written_is c r (stations_of s.sheet.now) s.terms.now b.ty l))
+pub value_written : {c d : Context} {b : Bound} → Ready c → BoundValue c d b → (s : Spot) → b.ty < c.written → context_of d ≡ binding_value (context_of c) (type_of (checked_program c (stations_of s.setting.now.sheet.now) s.setting.now.terms.now) b.ty) (world_of b.world)
+value_written {c} {d} {b} r h s l = value_context h ∙ ap (λ (P : Ty). binding_value (context_of c) P (world_of b.world)) (sym (written_is c r (stations_of s.setting.now.sheet.now) s.setting.now.terms.now b.ty l))
 
-pub continuation_written : {c d : Context} {b : Bound} → Ready c → BoundContinuation c d b → (s : Spot) → b.ty < c.written → context_of d ≡ binding_continuation (context_of c) (type_of (checked_program c (stations_of s.sheet.now) s.terms.now) b.ty) (world_of b.world)
-continuation_written {c} {d} {b} r h s l = continuation_context h ∙ ap (λ (P : Ty). binding_continuation (context_of c) P (world_of b.world)) (sym (written_is c r (stations_of s.sheet.now) s.terms.now b.ty l))
+pub continuation_written : {c d : Context} {b : Bound} → Ready c → BoundContinuation c d b → (s : Spot) → b.ty < c.written → context_of d ≡ binding_continuation (context_of c) (type_of (checked_program c (stations_of s.setting.now.sheet.now) s.setting.now.terms.now) b.ty) (world_of b.world)
+continuation_written {c} {d} {b} r h s l = continuation_context h ∙ ap (λ (P : Ty). binding_continuation (context_of c) P (world_of b.world)) (sym (written_is c r (stations_of s.setting.now.sheet.now) s.setting.now.terms.now b.ty l))
 
 -- a body with verdict V in b was judged, and its scope has ended
 module _ {c b e : Context} {v U V : Checked} (rows : rows_of b ≡ rows_of c) (o : U ≡ V) (q : Same c e) where
@@ -134,6 +134,6 @@ pub body_unheld : {c : Context} {v U V : Checked} {f : CheckFault} (part : ℕ) 
 body_unheld part A k o g t = g.left ∙ ap (λ (y : Checked). expecting part y A k) o ∙ t k
 
 -- a written type stands for what it stood for after the body
-pub written_still : {c b e : Context} {n : ℕ} → Ready c → rows_of b ≡ rows_of c → Grown b n e → Same c e → (s : Spot) (t : ℕ) → t < c.written → meaning_of e t ≡ type_of (checked_program c (stations_of s.sheet.now) s.terms.now) t
+pub written_still : {c b e : Context} {n : ℕ} → Ready c → rows_of b ≡ rows_of c → Grown b n e → Same c e → (s : Spot) (t : ℕ) → t < c.written → meaning_of e t ≡ type_of (checked_program c (stations_of s.setting.now.sheet.now) s.setting.now.terms.now) t
 written_still {c} {b} {e} {n} r rows g q s t l =
-    keeps r (grown_from c rows g) q t (omega (arith, r.laid.some)) ∙ sym (written_is c r (stations_of s.sheet.now) s.terms.now t l)
+    keeps r (grown_from c rows g) q t (omega (arith, r.laid.some)) ∙ sym (written_is c r (stations_of s.setting.now.sheet.now) s.setting.now.terms.now t l)

@@ -128,21 +128,21 @@ pub record Same (c d : Context) : Type 0 where
 
 -- what judging the term at a spot asks, where it has this row
 pub record AsksRow (c : Context) (s : Spot) (r : TermRow) : Type 0 where
-  pub asks : Asks c s.terms.now s.term
-  pub row : slice_index_or s.terms.now s.term (Term.Num 0) ≡ r
+  pub asks : Asks c s.setting.now.terms.now s.term
+  pub row : slice_index_or s.setting.now.terms.now s.term (Term.Num 0) ≡ r
 
 -- the verdict on the term at a spot
-abbrev pub verdict_at : Context → Spot → Checked
-verdict_at c s = verdict c (stations_of s.sheet.now) s.terms.now s.term s.world
+abbrev pub verdict_at : Context → Spot → At → Checked
+verdict_at c s w = verdict c (stations_of s.setting.now.sheet.now) s.setting.now.terms.now s.term w
 
 -- what judging it answers and leaves
-pub record Judges (c : Context) (s : Spot) (r : Result ℕ CheckFault) (d : Context) : Type 0 where
-  pub judged : Judged c (verdict_at c s) r (size s.terms.now s.term) d
+pub record Judges (c : Context) (s : Spot) (w : At) (r : Result ℕ CheckFault) (d : Context) : Type 0 where
+  pub judged : Judged c (verdict_at c s w) r (size s.setting.now.terms.now s.term) d
   pub same : Same c d
 
 -- the same where it has this row
-pub record JudgesRow (c : Context) (s : Spot) (row : TermRow) (r : Result ℕ CheckFault) (d : Context) : Type 0 where
-  pub judged : Judged c (row_verdict c (stations_of s.sheet.now) s.terms.now s.term row s.world) r (size s.terms.now s.term) d
+pub record JudgesRow (c : Context) (s : Spot) (row : TermRow) (w : At) (r : Result ℕ CheckFault) (d : Context) : Type 0 where
+  pub judged : Judged c (row_verdict c (stations_of s.setting.now.sheet.now) s.setting.now.terms.now s.term row w) r (size s.setting.now.terms.now s.term) d
   pub same : Same c d
 
 -- one height is under another

@@ -10,7 +10,7 @@ ghost use Rattle.checker.specs.Concluding.{Sound, Clear, Concluded};
 use crate::accepted::{Accepted, Entry};
 use crate::context::{At, Bound, Context, Height};
 use crate::scopes::ScopeList;
-use crate::spot::Spot;
+use crate::spot::{Setting, Spot};
 use lines::refusal::{CheckFault, Refusal};
 use rows::Rows;
 use std::alloc::{AllocError, Global};
@@ -71,12 +71,17 @@ impl Context {
         if start as usize >= sheet.len() {
             return Err(CheckFault::Unbound(0));
         }
-        self.judge(Spot {
+        let setting = Setting {
             terms: program.terms(),
             sheet: &sheet,
-            term: 0,
-            world: At::Site(start),
-        })
+        };
+        self.judge(
+            Spot {
+                setting: &setting,
+                term: 0,
+            },
+            At::Site(start),
+        )
     }
 }
 

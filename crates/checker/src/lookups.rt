@@ -42,11 +42,11 @@ impl Context {
     // The world that a term names: a site of the sheet, or a bound world.
     pub(crate) fn world_at(&self, spot: Spot, world: World) -> Result<At, CheckFault>
         requires { self.now.height.worlds ≤ 1024 }
-        ensures { Located (length (stations_of spot.entry.sheet.now)) self.now.height.worlds world spot.entry.term result }
+        ensures { Located (length (stations_of spot.entry.setting.now.sheet.now)) self.now.height.worlds world spot.entry.term result }
     {
         match world {
             World::Site(site) => {
-                if (site as usize) < spot.sheet.len() {
+                if (site as usize) < spot.setting.sheet.len() {
                     Ok(At::Site(site))
                 } else {
                     Err(CheckFault::Unbound(spot.term as usize))
@@ -78,13 +78,18 @@ fn fitted(sheet: &Sheet, kind: Instrument, site: u16) -> u8
 }
 
 // A register that a term names is on the sheet, at the site where the term stands.
-pub(crate) fn register_at(spot: Spot, kind: Instrument, number: u16) -> Result<(), CheckFault>
-    ensures { result ≡ registered (registers_there kind (stations_of spot.entry.sheet.now)) (world_of spot.entry.world) number spot.entry.term }
+pub(crate) fn register_at(
+    spot: Spot,
+    world: At,
+    kind: Instrument,
+    number: u16,
+) -> Result<(), CheckFault>
+    ensures { result ≡ registered (registers_there kind (stations_of spot.entry.setting.now.sheet.now)) (world_of world) number spot.entry.term }
 {
-    let At::Site(site) = spot.world else {
+    let At::Site(site) = world else {
         return Err(CheckFault::BoundWorld(spot.term as usize));
     };
-    if number < fitted(spot.sheet, kind, site) as u16 {
+    if number < fitted(spot.setting.sheet, kind, site) as u16 {
         Ok(())
     } else {
         Err(CheckFault::NotOnSheet(spot.term as usize))

@@ -28,16 +28,16 @@ pub app-judge_as-requires : goal.app-judge_as-requires
 app-judge_as-requires t c =
     let r = c.requires.asks.ready in
     let t1 = c.in_ok-whole.ensures.judged.answer in
-    let w1 = onwards (judged_next r c.args.spot c.args.function c.args.spot.world _ (begun c.requires) t1 c.judge.ensures.same) (fn_goes t1 c.in-Fn.from c.in-Fn.to (sym c.row.ensures ∙ c.in-Fn.is) _ _) in
+    let w1 = onwards (judged_next r c.args.spot c.args.function c.args.world _ (begun c.requires c.args.world) t1 c.judge.ensures.same) (fn_goes t1 c.in-Fn.from c.in-Fn.to (sym c.row.ensures ∙ c.in-Fn.is) _ _) in
     (search rules, (asked_next c.requires w1 c.args.argument (row_parts c.requires).1 (omega (arith, row_sizes c.requires)), (fn_inside t1 c.in-Fn.from c.in-Fn.to (sym c.row.ensures ∙ c.in-Fn.is)).0))
 
 pub app-returns-in_err-judge_as : goal.app-returns-in_err-judge_as
 app-returns-in_err-judge_as t c =
     let r = c.requires.asks.ready in
     let t1 = c.in_ok-whole.ensures.judged.answer in
-    let w1 = onwards (judged_next r c.args.spot c.args.function c.args.spot.world _ (begun c.requires) t1 c.judge.ensures.same) (fn_goes t1 c.in-Fn.from c.in-Fn.to (sym c.row.ensures ∙ c.in-Fn.is) _ _) in
+    let w1 = onwards (judged_next r c.args.spot c.args.function c.args.world _ (begun c.requires c.args.world) t1 c.judge.ensures.same) (fn_goes t1 c.in-Fn.from c.in-Fn.to (sym c.row.ensures ∙ c.in-Fn.is) _ _) in
     record {
-      judged = stops c.in_err-judge_as.field-0.0 c.from_residual-in_err-judge_as.ensures.1 (held_stops r c.args.spot c.args.argument c.args.spot.world _ w1 c.in_err-judge_as.ensures.held.answer refl);
+      judged = stops c.in_err-judge_as.field-0.0 c.from_residual-in_err-judge_as.ensures.1 (held_stops r c.args.spot c.args.argument c.args.world _ w1 c.in_err-judge_as.ensures.held.answer refl);
       same = same_then w1.same c.judge_as.ensures.same;
     }
 
@@ -45,9 +45,9 @@ pub app-returns : goal.app-returns
 app-returns t c =
     let r = c.requires.asks.ready in
     let t1 = c.in_ok-whole.ensures.judged.answer in
-    let w1 = onwards (judged_next r c.args.spot c.args.function c.args.spot.world _ (begun c.requires) t1 c.judge.ensures.same) (fn_goes t1 c.in-Fn.from c.in-Fn.to (sym c.row.ensures ∙ c.in-Fn.is) _ _) in
+    let w1 = onwards (judged_next r c.args.spot c.args.function c.args.world _ (begun c.requires c.args.world) t1 c.judge.ensures.same) (fn_goes t1 c.in-Fn.from c.in-Fn.to (sym c.row.ensures ∙ c.in-Fn.is) _ _) in
     let t2 = c.in_ok-judge_as.ensures.held.answer in
-    let w2 = held_next r c.args.spot c.args.argument c.args.spot.world w1 t2 refl c.judge_as.ensures.same in
+    let w2 = held_next r c.args.spot c.args.argument c.args.world w1 t2 refl c.judge_as.ensures.same in
     let k = stays_on r w1 t2.grown c.judge_as.ensures.same c.in-Fn.to (fn_inside t1 c.in-Fn.from c.in-Fn.to (sym c.row.ensures ∙ c.in-Fn.is)).1 in
     record { judged = record { answer = finished w2 k.0 k.1 (omega (arith, row_sizes c.requires)) }; same = w2.same }
 
@@ -105,7 +105,7 @@ here-build-requires t c = omega (arith, c.in_ok-inner.ensures.judged.answer.grow
 pub here-returns : goal.here-returns
 here-returns t c =
     let r = c.requires.asks.ready in
-    let w1 = judged_next r c.args.spot c.args.part c.args.spot.world _ (begun c.requires) c.in_ok-inner.ensures.judged.answer c.judge.ensures.same in
+    let w1 = judged_next r c.args.spot c.args.part c.args.world _ (begun c.requires c.args.world) c.in_ok-inner.ensures.judged.answer c.judge.ensures.same in
     record {
       judged = record { answer = built_last r w1 c.in_ok-inner.ensures.judged.answer.number tt c.build.ensures refl (omega (arith, row_sizes c.requires)) };
       same = same_then w1.same c.build.ensures.same;
@@ -117,30 +117,30 @@ pair-judge-requires t c = (search rules, first_part c.requires c.args.left (row_
 pub pair-judge-requires-2 : goal.pair-judge-requires-2
 pair-judge-requires-2 t c =
     let r = c.requires.asks.ready in
-    let w1 = judged_next r c.args.spot c.args.left c.args.spot.world _ (begun c.requires) c.in_ok-first.ensures.judged.answer c.judge.ensures.same in
+    let w1 = judged_next r c.args.spot c.args.left c.args.world _ (begun c.requires c.args.world) c.in_ok-first.ensures.judged.answer c.judge.ensures.same in
     (search rules, asked_next c.requires w1 c.args.right (row_parts c.requires).1 (omega (arith, row_sizes c.requires)))
 
 pub pair-returns-in_err-second : goal.pair-returns-in_err-second
 pair-returns-in_err-second t c =
     let r = c.requires.asks.ready in
-    let w1 = judged_next r c.args.spot c.args.left c.args.spot.world _ (begun c.requires) c.in_ok-first.ensures.judged.answer c.judge.ensures.same in
+    let w1 = judged_next r c.args.spot c.args.left c.args.world _ (begun c.requires c.args.world) c.in_ok-first.ensures.judged.answer c.judge.ensures.same in
     record {
-      judged = stops c.in_err-second.field-0.0 c.from_residual-in_err-second.ensures.1 (judged_stops r c.args.spot c.args.right c.args.spot.world _ w1 c.in_err-second.ensures.judged.answer);
+      judged = stops c.in_err-second.field-0.0 c.from_residual-in_err-second.ensures.1 (judged_stops r c.args.spot c.args.right c.args.world _ w1 c.in_err-second.ensures.judged.answer);
       same = same_then w1.same c.judge-2.ensures.same;
     }
 
 pub pair-build-requires : goal.pair-build-requires
 pair-build-requires t c =
     let r = c.requires.asks.ready in
-    let w1 = judged_next r c.args.spot c.args.left c.args.spot.world _ (begun c.requires) c.in_ok-first.ensures.judged.answer c.judge.ensures.same in
-    let w2 = judged_next r c.args.spot c.args.right c.args.spot.world _ w1 c.in_ok-second.ensures.judged.answer c.judge-2.ensures.same in
+    let w1 = judged_next r c.args.spot c.args.left c.args.world _ (begun c.requires c.args.world) c.in_ok-first.ensures.judged.answer c.judge.ensures.same in
+    let w2 = judged_next r c.args.spot c.args.right c.args.world _ w1 c.in_ok-second.ensures.judged.answer c.judge-2.ensures.same in
     omega (arith, w2.grown.few, c.requires.asks.room, c.requires.asks.few, row_sizes c.requires)
 
 pub pair-returns : goal.pair-returns
 pair-returns t c =
     let r = c.requires.asks.ready in
-    let w1 = judged_next r c.args.spot c.args.left c.args.spot.world _ (begun c.requires) c.in_ok-first.ensures.judged.answer c.judge.ensures.same in
-    let w2 = judged_next r c.args.spot c.args.right c.args.spot.world _ w1 c.in_ok-second.ensures.judged.answer c.judge-2.ensures.same in
+    let w1 = judged_next r c.args.spot c.args.left c.args.world _ (begun c.requires c.args.world) c.in_ok-first.ensures.judged.answer c.judge.ensures.same in
+    let w2 = judged_next r c.args.spot c.args.right c.args.world _ w1 c.in_ok-second.ensures.judged.answer c.judge-2.ensures.same in
     let t2 = c.in_ok-second.ensures.judged.answer in
     let k = stays_on r w1 t2.grown c.judge-2.ensures.same c.in_ok-first.first c.in_ok-first.ensures.judged.answer.number in
     record {
@@ -240,7 +240,7 @@ get-judge-requires t c = (search rules, first_part c.requires c.args.part (row_p
 pub get-returns-then-is_carried : goal.get-returns-then-is_carried
 get-returns-then-is_carried t c =
     let r = c.requires.asks.ready in
-    let w0 = onwards (begun c.requires) (located (stations_of c.args.spot.sheet.now) c.args.self.now.height.worlds c.args.there c.args.spot.term c.in_ok-elsewhere.elsewhere (λ (u : World). then_type (judge (checked_program c.args.self.now (stations_of c.args.spot.sheet.now) c.args.spot.terms.now) c.args.part (context_of c.args.self.now) u) (λ (P : Ty). when_mobile c.args.mobile P (Mismatch c.args.part) (typed P))) c.in_ok-elsewhere.ensures) in
+    let w0 = onwards (begun c.requires c.args.world) (located (stations_of c.args.spot.setting.now.sheet.now) c.args.self.now.height.worlds c.args.there c.args.spot.term c.in_ok-elsewhere.elsewhere (λ (u : World). then_type (judge (checked_program c.args.self.now (stations_of c.args.spot.setting.now.sheet.now) c.args.spot.setting.now.terms.now) c.args.part (context_of c.args.self.now) u) (λ (P : Ty). when_mobile c.args.mobile P (Mismatch c.args.part) (typed P))) c.in_ok-elsewhere.ensures) in
     let w1 = judged_next r c.args.spot c.args.part c.in_ok-elsewhere.elsewhere _ w0 c.in_ok-given.ensures.judged.answer c.judge.ensures.same in
     let t1 = c.in_ok-given.ensures.judged.answer in
     let w2 = onwards w1 (w1.left ∙ mobile_goes t1 c.args.mobile (Mismatch c.args.part) (typed (meaning_of c.judge.new.self c.in_ok-given.given)) (sym c.is_carried.ensures ∙ c.if-is_carried.true)) in
@@ -249,7 +249,7 @@ get-returns-then-is_carried t c =
 pub get-returns-else-is_carried : goal.get-returns-else-is_carried
 get-returns-else-is_carried t c =
     let r = c.requires.asks.ready in
-    let w0 = onwards (begun c.requires) (located (stations_of c.args.spot.sheet.now) c.args.self.now.height.worlds c.args.there c.args.spot.term c.in_ok-elsewhere.elsewhere (λ (u : World). then_type (judge (checked_program c.args.self.now (stations_of c.args.spot.sheet.now) c.args.spot.terms.now) c.args.part (context_of c.args.self.now) u) (λ (P : Ty). when_mobile c.args.mobile P (Mismatch c.args.part) (typed P))) c.in_ok-elsewhere.ensures) in
+    let w0 = onwards (begun c.requires c.args.world) (located (stations_of c.args.spot.setting.now.sheet.now) c.args.self.now.height.worlds c.args.there c.args.spot.term c.in_ok-elsewhere.elsewhere (λ (u : World). then_type (judge (checked_program c.args.self.now (stations_of c.args.spot.setting.now.sheet.now) c.args.spot.setting.now.terms.now) c.args.part (context_of c.args.self.now) u) (λ (P : Ty). when_mobile c.args.mobile P (Mismatch c.args.part) (typed P))) c.in_ok-elsewhere.ensures) in
     let w1 = judged_next r c.args.spot c.args.part c.in_ok-elsewhere.elsewhere _ w0 c.in_ok-given.ensures.judged.answer c.judge.ensures.same in
     record {
       judged = record { answer = w1.left ∙ mobile_stops c.in_ok-given.ensures.judged.answer c.args.mobile _ _ (sym c.is_carried.ensures ∙ c.if-is_carried.false) };
@@ -263,7 +263,7 @@ pub go-returns : goal.go-returns
 go-returns t c =
     let r = c.requires.asks.ready in
     let t1 = c.in_ok-given.ensures.judged.answer in
-    let w0 = onwards (begun c.requires) (located (stations_of c.args.spot.sheet.now) c.args.self.now.height.worlds c.args.there c.args.spot.term c.in_ok-elsewhere.elsewhere (λ (u : World). expecting c.args.part (judge (checked_program c.args.self.now (stations_of c.args.spot.sheet.now) c.args.spot.terms.now) c.args.part (context_of c.args.self.now) u) none (typed (type_of (checked_program c.args.self.now (stations_of c.args.spot.sheet.now) c.args.spot.terms.now) c.args.written))) c.in_ok-elsewhere.ensures) in
+    let w0 = onwards (begun c.requires c.args.world) (located (stations_of c.args.spot.setting.now.sheet.now) c.args.self.now.height.worlds c.args.there c.args.spot.term c.in_ok-elsewhere.elsewhere (λ (u : World). expecting c.args.part (judge (checked_program c.args.self.now (stations_of c.args.spot.setting.now.sheet.now) c.args.spot.setting.now.terms.now) c.args.part (context_of c.args.self.now) u) none (typed (type_of (checked_program c.args.self.now (stations_of c.args.spot.setting.now.sheet.now) c.args.spot.setting.now.terms.now) c.args.written))) c.in_ok-elsewhere.ensures) in
     let w1 = held_next r c.args.spot c.args.part c.in_ok-elsewhere.elsewhere w0 (fits c.args.part none t1 (never_is t1 (sym c.row.ensures ∙ c.in-Never.is))) refl c.judge.ensures.same in
     let l = (row_parts c.requires).0 in
     record { judged = record { answer = finished w1 (written_in r w1 c.args.written l).1 (written_stays r w1 c.args.spot c.args.written l) (omega (arith, row_sizes c.requires)) }; same = w1.same }
@@ -272,7 +272,7 @@ pub go-returns-in_default : goal.go-returns-in_default
 go-returns-in_default t c =
     let r = c.requires.asks.ready in
     let t1 = c.in_ok-given.ensures.judged.answer in
-    let w0 = onwards (begun c.requires) (located (stations_of c.args.spot.sheet.now) c.args.self.now.height.worlds c.args.there c.args.spot.term c.in_ok-elsewhere.elsewhere (λ (u : World). expecting c.args.part (judge (checked_program c.args.self.now (stations_of c.args.spot.sheet.now) c.args.spot.terms.now) c.args.part (context_of c.args.self.now) u) none (typed (type_of (checked_program c.args.self.now (stations_of c.args.spot.sheet.now) c.args.spot.terms.now) c.args.written))) c.in_ok-elsewhere.ensures) in
+    let w0 = onwards (begun c.requires c.args.world) (located (stations_of c.args.spot.setting.now.sheet.now) c.args.self.now.height.worlds c.args.there c.args.spot.term c.in_ok-elsewhere.elsewhere (λ (u : World). expecting c.args.part (judge (checked_program c.args.self.now (stations_of c.args.spot.setting.now.sheet.now) c.args.spot.setting.now.terms.now) c.args.part (context_of c.args.self.now) u) none (typed (type_of (checked_program c.args.self.now (stations_of c.args.spot.setting.now.sheet.now) c.args.spot.setting.now.terms.now) c.args.written))) c.in_ok-elsewhere.ensures) in
     record {
       judged = record { answer = held_stops r c.args.spot c.args.part c.in_ok-elsewhere.elsewhere _ w0 (unfit c.args.part none t1 (never_not t1 (λ q. c.in_default.not-Never (c.row.ensures ∙ q)))) refl };
       same = c.judge.ensures.same;
@@ -285,12 +285,12 @@ pub gate-returns : goal.gate-returns
 gate-returns t c =
     let sz = row_sizes c.requires in
     let t1 = c.in_ok-given.ensures.held.answer in
-    let k = when_site (world_of c.args.spot.world) (BoundWorld c.args.spot.term) (λ s. need (dec_lt c.args.number (gates_there (stations_of c.args.spot.sheet.now) s)) (NotOnSheet c.args.spot.term) (typed num)) in
+    let k = when_site (world_of c.args.world) (BoundWorld c.args.spot.term) (λ s. need (dec_lt c.args.number (gates_there (stations_of c.args.spot.setting.now.sheet.now) s)) (NotOnSheet c.args.spot.term) (typed num)) in
     record {
       judged = record {
         answer = record {
           number = t1.number;
-          verdict = t1.goes k ∙ registered_goes (gates_there (stations_of c.args.spot.sheet.now)) (world_of c.args.spot.world) c.args.number c.args.spot.term c.in_ok-register_at.field-0 (typed num) (sym c.register_at.ensures ∙ c.in_ok-register_at.was) ∙ ap typed (sym t1.is);
+          verdict = t1.goes k ∙ registered_goes (gates_there (stations_of c.args.spot.setting.now.sheet.now)) (world_of c.args.world) c.args.number c.args.spot.term c.in_ok-register_at.field-0 (typed num) (sym c.register_at.ensures ∙ c.in_ok-register_at.was) ∙ ap typed (sym t1.is);
           grown = grown_more (omega (arith, sz)) t1.grown;
         };
       };
@@ -310,8 +310,8 @@ lam-returns-in_err-to t c =
     let l = (row_parts c.requires).0 in
     let bv = c.bind_value.ensures in
     let s2 : Same c.args.self.now c.judge_under.new.self = ended bv.kept c.judge_under.ensures.kept c.judge_under.ensures.height in
-    let o = body_verdict c.args.self.now c.bind_value.new.self c.args.spot c.args.body c.args.spot.world bv.rows bv.kept.written (value_written r bv c.args.spot l) in
-    record { judged = stops c.in_err-to.field-0.0 c.from_residual.ensures.1 (body_stops _ o (begun c.requires) c.in_err-to.ensures.judged.answer); same = s2 }
+    let o = body_verdict c.args.self.now c.bind_value.new.self c.args.spot c.args.body c.args.world bv.rows bv.kept.written (value_written r bv c.args.spot l) in
+    record { judged = stops c.in_err-to.field-0.0 c.from_residual.ensures.1 (body_stops _ o (begun c.requires c.args.world) c.in_err-to.ensures.judged.answer); same = s2 }
 
 pub lam-build-requires : goal.lam-build-requires
 lam-build-requires t c =
@@ -324,9 +324,9 @@ lam-returns t c =
     let l = (row_parts c.requires).0 in
     let bv = c.bind_value.ensures in
     let s2 : Same c.args.self.now c.judge_under.new.self = ended bv.kept c.judge_under.ensures.kept c.judge_under.ensures.height in
-    let o = body_verdict c.args.self.now c.bind_value.new.self c.args.spot c.args.body c.args.spot.world bv.rows bv.kept.written (value_written r bv c.args.spot l) in
+    let o = body_verdict c.args.self.now c.bind_value.new.self c.args.spot c.args.body c.args.world bv.rows bv.kept.written (value_written r bv c.args.spot l) in
     let t1 = c.in_ok-to.ensures.judged.answer in
-    let w1 = body_next bv.rows o s2 _ (begun c.requires) t1 in
+    let w1 = body_next bv.rows o s2 _ (begun c.requires c.args.world) t1 in
     let i = written_in r w1 c.args.written l in
     record {
       judged = record { answer = built_last r w1 (i.1, t1.number) i.0 c.build.ensures (ap (λ (P : Ty). fn P (meaning_of c.judge_under.new.self c.in_ok-to.to)) (written_stays r w1 c.args.spot c.args.written l)) (omega (arith, row_sizes c.requires)) };
@@ -344,7 +344,7 @@ boxed-returns-in_err-part t c =
     let bw = c.bind_world.ensures in
     let s2 : Same c.args.self.now c.judge_under.new.self = ended bw.kept c.judge_under.ensures.kept c.judge_under.ensures.height in
     let o = body_verdict c.args.self.now c.bind_world.new.self c.args.spot c.args.body (Level c.args.self.now.height.worlds) bw.rows bw.kept.written (world_context bw) in
-    record { judged = stops c.in_err-part.field-0.0 c.from_residual.ensures.1 (body_stops _ o (begun c.requires) c.in_err-part.ensures.judged.answer); same = s2 }
+    record { judged = stops c.in_err-part.field-0.0 c.from_residual.ensures.1 (body_stops _ o (begun c.requires c.args.world) c.in_err-part.ensures.judged.answer); same = s2 }
 
 pub boxed-build-requires : goal.boxed-build-requires
 boxed-build-requires t c =
@@ -358,7 +358,7 @@ boxed-returns t c =
     let s2 : Same c.args.self.now c.judge_under.new.self = ended bw.kept c.judge_under.ensures.kept c.judge_under.ensures.height in
     let o = body_verdict c.args.self.now c.bind_world.new.self c.args.spot c.args.body (Level c.args.self.now.height.worlds) bw.rows bw.kept.written (world_context bw) in
     let t1 = c.in_ok-part.ensures.judged.answer in
-    let w1 = body_next bw.rows o s2 _ (begun c.requires) t1 in
+    let w1 = body_next bw.rows o s2 _ (begun c.requires c.args.world) t1 in
     record { judged = record { answer = built_last r w1 t1.number tt c.build.ensures refl (omega (arith, row_sizes c.requires)) }; same = same_then s2 c.build.ensures.same }
 
 pub letcc-judge_under-requires : goal.letcc-judge_under-requires
@@ -373,8 +373,8 @@ letcc-returns-in_err-given t c =
     let l = (row_parts c.requires).0 in
     let bc = c.bind_continuation.ensures in
     let s2 : Same c.args.self.now c.judge_under.new.self = ended bc.kept c.judge_under.ensures.kept c.judge_under.ensures.height in
-    let o = body_verdict c.args.self.now c.bind_continuation.new.self c.args.spot c.args.body c.args.spot.world bc.rows bc.kept.written (continuation_written r bc c.args.spot l) in
-    record { judged = stops c.in_err-given.field-0.0 c.from_residual.ensures.1 (body_stops _ o (begun c.requires) c.in_err-given.ensures.judged.answer); same = s2 }
+    let o = body_verdict c.args.self.now c.bind_continuation.new.self c.args.spot c.args.body c.args.world bc.rows bc.kept.written (continuation_written r bc c.args.spot l) in
+    record { judged = stops c.in_err-given.field-0.0 c.from_residual.ensures.1 (body_stops _ o (begun c.requires c.args.world) c.in_err-given.ensures.judged.answer); same = s2 }
 
 pub letcc-returns-in_err-expect : goal.letcc-returns-in_err-expect
 letcc-returns-in_err-expect t c =
@@ -382,11 +382,11 @@ letcc-returns-in_err-expect t c =
     let l = (row_parts c.requires).0 in
     let bc = c.bind_continuation.ensures in
     let s2 : Same c.args.self.now c.judge_under.new.self = ended bc.kept c.judge_under.ensures.kept c.judge_under.ensures.height in
-    let o = body_verdict c.args.self.now c.bind_continuation.new.self c.args.spot c.args.body c.args.spot.world bc.rows bc.kept.written (continuation_written r bc c.args.spot l) in
+    let o = body_verdict c.args.self.now c.bind_continuation.new.self c.args.spot c.args.body c.args.world bc.rows bc.kept.written (continuation_written r bc c.args.spot l) in
     let t1 = c.in_ok-given.ensures.judged.answer in
     let k1 = written_still r bc.rows t1.grown s2 c.args.spot c.args.written l in
     record {
-      judged = stops c.in_err-expect.field-0.0 c.from_residual-in_err-expect.ensures.1 (body_unheld c.args.body _ _ o (begun c.requires) (held_unfit c.args.body _ t1 (meaning_of c.judge_under.new.self c.args.written) c.in_err-expect.field-0.0 k1 (sym c.expect.ensures ∙ c.in_err-expect.was)));
+      judged = stops c.in_err-expect.field-0.0 c.from_residual-in_err-expect.ensures.1 (body_unheld c.args.body _ _ o (begun c.requires c.args.world) (held_unfit c.args.body _ t1 (meaning_of c.judge_under.new.self c.args.written) c.in_err-expect.field-0.0 k1 (sym c.expect.ensures ∙ c.in_err-expect.was)));
       same = s2;
     }
 
@@ -396,10 +396,10 @@ letcc-returns t c =
     let l = (row_parts c.requires).0 in
     let bc = c.bind_continuation.ensures in
     let s2 : Same c.args.self.now c.judge_under.new.self = ended bc.kept c.judge_under.ensures.kept c.judge_under.ensures.height in
-    let o = body_verdict c.args.self.now c.bind_continuation.new.self c.args.spot c.args.body c.args.spot.world bc.rows bc.kept.written (continuation_written r bc c.args.spot l) in
+    let o = body_verdict c.args.self.now c.bind_continuation.new.self c.args.spot c.args.body c.args.world bc.rows bc.kept.written (continuation_written r bc c.args.spot l) in
     let t1 = c.in_ok-given.ensures.judged.answer in
     let k1 = written_still r bc.rows t1.grown s2 c.args.spot c.args.written l in
-    let w1 = body_held bc.rows o s2 (begun c.requires) (held_fits c.args.body _ t1 (meaning_of c.judge_under.new.self c.args.written) c.in_ok-expect.field-0 k1 (sym c.expect.ensures ∙ c.in_ok-expect.was)) in
+    let w1 = body_held bc.rows o s2 (begun c.requires c.args.world) (held_fits c.args.body _ t1 (meaning_of c.judge_under.new.self c.args.written) c.in_ok-expect.field-0 k1 (sym c.expect.ensures ∙ c.in_ok-expect.was)) in
     record { judged = record { answer = finished w1 (written_in r w1 c.args.written l).1 k1 (omega (arith, row_sizes c.requires)) }; same = s2 }
 
 pub letd-judge-requires : goal.letd-judge-requires
@@ -438,16 +438,16 @@ letd-returns t c =
     value_context bv ∙ ap (λ (x : Around). binding_value x (meaning_of c.bind_world.new.self c.in-At.inner) (bound c.judge.new.self.height.worlds)) (world_context bw ∙ ap binding_world (context_kept A.ready t1.grown s1))
     ∙ ap (λ (P : Ty). binding_value (binding_world (context_of c.args.self.now)) P (bound c.judge.new.self.height.worlds)) (ap (λ (M : ℕ → Ty). M c.in-At.inner) (same_meaning c.judge.new.self c.bind_world.new.self bw.rows bw.kept.written))
     ∙ ap (λ n. binding_value (binding_world (context_of c.args.self.now)) (meaning_of c.judge.new.self c.in-At.inner) (bound n)) hw in
-    let prog : checked_program c.bind_value.new.self (stations_of c.args.spot.sheet.now) c.args.spot.terms.now ≡ (checked_program c.args.self.now (stations_of c.args.spot.sheet.now) c.args.spot.terms.now) = same_program c.bind_world.new.self c.bind_value.new.self bv.rows bv.kept.written (stations_of c.args.spot.sheet.now) c.args.spot.terms.now ∙ same_program c.judge.new.self c.bind_world.new.self bw.rows bw.kept.written (stations_of c.args.spot.sheet.now) c.args.spot.terms.now ∙ program_kept A.ready t1.grown s1 (stations_of c.args.spot.sheet.now) c.args.spot.terms.now in
-    let o : then_type (verdict c.args.self.now (stations_of c.args.spot.sheet.now) c.args.spot.terms.now c.args.address c.args.spot.world) (λ (X : Ty). when_at X (Mismatch c.args.address) (λ (P : Ty). judge (checked_program c.args.self.now (stations_of c.args.spot.sheet.now) c.args.spot.terms.now) c.args.body (binding_value (binding_world (context_of c.args.self.now)) P (bound c.args.self.now.height.worlds)) (world_of c.args.spot.world))) ≡ verdict c.bind_value.new.self (stations_of c.args.spot.sheet.now) c.args.spot.terms.now c.args.body c.args.spot.world =
-    at_goes t1 c.in-At.inner (sym c.row.ensures ∙ c.in-At.is) (Mismatch c.args.address) (λ (P : Ty). judge (checked_program c.args.self.now (stations_of c.args.spot.sheet.now) c.args.spot.terms.now) c.args.body (binding_value (binding_world (context_of c.args.self.now)) P (bound c.args.self.now.height.worlds)) (world_of c.args.spot.world))
-    ∙ ap (λ (x : Around). judge (checked_program c.args.self.now (stations_of c.args.spot.sheet.now) c.args.spot.terms.now) c.args.body x (world_of c.args.spot.world)) (sym ctx) ∙ ap (λ (p : Program). judge p c.args.body (context_of c.bind_value.new.self) (world_of c.args.spot.world)) (sym prog) in
+    let prog : checked_program c.bind_value.new.self (stations_of c.args.spot.setting.now.sheet.now) c.args.spot.setting.now.terms.now ≡ (checked_program c.args.self.now (stations_of c.args.spot.setting.now.sheet.now) c.args.spot.setting.now.terms.now) = same_program c.bind_world.new.self c.bind_value.new.self bv.rows bv.kept.written (stations_of c.args.spot.setting.now.sheet.now) c.args.spot.setting.now.terms.now ∙ same_program c.judge.new.self c.bind_world.new.self bw.rows bw.kept.written (stations_of c.args.spot.setting.now.sheet.now) c.args.spot.setting.now.terms.now ∙ program_kept A.ready t1.grown s1 (stations_of c.args.spot.setting.now.sheet.now) c.args.spot.setting.now.terms.now in
+    let o : then_type (verdict c.args.self.now (stations_of c.args.spot.setting.now.sheet.now) c.args.spot.setting.now.terms.now c.args.address c.args.world) (λ (X : Ty). when_at X (Mismatch c.args.address) (λ (P : Ty). judge (checked_program c.args.self.now (stations_of c.args.spot.setting.now.sheet.now) c.args.spot.setting.now.terms.now) c.args.body (binding_value (binding_world (context_of c.args.self.now)) P (bound c.args.self.now.height.worlds)) (world_of c.args.world))) ≡ verdict c.bind_value.new.self (stations_of c.args.spot.setting.now.sheet.now) c.args.spot.setting.now.terms.now c.args.body c.args.world =
+    at_goes t1 c.in-At.inner (sym c.row.ensures ∙ c.in-At.is) (Mismatch c.args.address) (λ (P : Ty). judge (checked_program c.args.self.now (stations_of c.args.spot.setting.now.sheet.now) c.args.spot.setting.now.terms.now) c.args.body (binding_value (binding_world (context_of c.args.self.now)) P (bound c.args.self.now.height.worlds)) (world_of c.args.world))
+    ∙ ap (λ (x : Around). judge (checked_program c.args.self.now (stations_of c.args.spot.setting.now.sheet.now) c.args.spot.setting.now.terms.now) c.args.body x (world_of c.args.world)) (sym ctx) ∙ ap (λ (p : Program). judge p c.args.body (context_of c.bind_value.new.self) (world_of c.args.world)) (sym prog) in
     let s2 : Same c.judge.new.self c.judge_under.new.self = ended (kept_then bw.kept (kept_below c.judge.new.self bw.height bv.kept)) c.judge_under.ensures.kept c.judge_under.ensures.height in
     record { judged = judged_from c.args.self.now c.judge.new.self c.bind_value.new.self A.ready t1.grown s1 (bv.rows ∙ bw.rows) o (omega (arith, sz)) c.judge_under.ensures.judged; same = same_then s1 s2 }
 
 pub throw-returns-in_default : goal.throw-returns-in_default
 throw-returns-in_default t c =
-    record { judged = record { answer = ap (λ (x : Lookup (Ty × World)). bound_continuation c.args.spot.term x (λ (P : Ty) (u : World). expecting c.args.part (judge (checked_program c.args.self.now (stations_of c.args.spot.sheet.now) c.args.spot.terms.now) c.args.part (context_of c.args.self.now) u) P (typed (type_of (checked_program c.args.self.now (stations_of c.args.spot.sheet.now) c.args.spot.terms.now) c.args.written)))) (not_looked (bound_of (meaning_of c.args.self.now)) (continuations_of c.args.self.now) c.args.continuation (found c.args.continuation c.bound_continuations.ensures c.bound_at.ensures c.in_default.is)) }; same = same_self c.args.self.now }
+    record { judged = record { answer = ap (λ (x : Lookup (Ty × World)). bound_continuation c.args.spot.term x (λ (P : Ty) (u : World). expecting c.args.part (judge (checked_program c.args.self.now (stations_of c.args.spot.setting.now.sheet.now) c.args.spot.setting.now.terms.now) c.args.part (context_of c.args.self.now) u) P (typed (type_of (checked_program c.args.self.now (stations_of c.args.spot.setting.now.sheet.now) c.args.spot.setting.now.terms.now) c.args.written)))) (not_looked (bound_of (meaning_of c.args.self.now)) (continuations_of c.args.self.now) c.args.continuation (found c.args.continuation c.bound_continuations.ensures c.bound_at.ensures c.in_default.is)) }; same = same_self c.args.self.now }
 
 pub throw-judge_as-requires : goal.throw-judge_as-requires
 throw-judge_as-requires t c =
@@ -459,7 +459,7 @@ pub throw-returns-in_err-judge_as : goal.throw-returns-in_err-judge_as
 throw-returns-in_err-judge_as t c =
     let r = c.requires.asks.ready in
     let e = found c.args.continuation c.bound_continuations.ensures c.bound_at.ensures c.in-Some.is in
-    let w0 = onwards (begun c.requires) (ap (λ (x : Lookup (Ty × World)). bound_continuation c.args.spot.term x (λ (P : Ty) (u : World). expecting c.args.part (judge (checked_program c.args.self.now (stations_of c.args.spot.sheet.now) c.args.spot.terms.now) c.args.part (context_of c.args.self.now) u) P (typed (type_of (checked_program c.args.self.now (stations_of c.args.spot.sheet.now) c.args.spot.terms.now) c.args.written)))) (looked (bound_of (meaning_of c.args.self.now)) (continuations_of c.args.self.now) c.args.continuation c.in-Some.target e)) in
+    let w0 = onwards (begun c.requires c.args.world) (ap (λ (x : Lookup (Ty × World)). bound_continuation c.args.spot.term x (λ (P : Ty) (u : World). expecting c.args.part (judge (checked_program c.args.self.now (stations_of c.args.spot.setting.now.sheet.now) c.args.spot.setting.now.terms.now) c.args.part (context_of c.args.self.now) u) P (typed (type_of (checked_program c.args.self.now (stations_of c.args.spot.setting.now.sheet.now) c.args.spot.setting.now.terms.now) c.args.written)))) (looked (bound_of (meaning_of c.args.self.now)) (continuations_of c.args.self.now) c.args.continuation c.in-Some.target e)) in
     record {
       judged = stops c.in_err-judge_as.field-0.0 c.from_residual.ensures.1 (held_stops r c.args.spot c.args.part c.in-Some.target.world _ w0 c.in_err-judge_as.ensures.held.answer refl);
       same = c.judge_as.ensures.same;
@@ -469,7 +469,7 @@ pub throw-returns : goal.throw-returns
 throw-returns t c =
     let r = c.requires.asks.ready in
     let e = found c.args.continuation c.bound_continuations.ensures c.bound_at.ensures c.in-Some.is in
-    let w0 = onwards (begun c.requires) (ap (λ (x : Lookup (Ty × World)). bound_continuation c.args.spot.term x (λ (P : Ty) (u : World). expecting c.args.part (judge (checked_program c.args.self.now (stations_of c.args.spot.sheet.now) c.args.spot.terms.now) c.args.part (context_of c.args.self.now) u) P (typed (type_of (checked_program c.args.self.now (stations_of c.args.spot.sheet.now) c.args.spot.terms.now) c.args.written)))) (looked (bound_of (meaning_of c.args.self.now)) (continuations_of c.args.self.now) c.args.continuation c.in-Some.target e)) in
+    let w0 = onwards (begun c.requires c.args.world) (ap (λ (x : Lookup (Ty × World)). bound_continuation c.args.spot.term x (λ (P : Ty) (u : World). expecting c.args.part (judge (checked_program c.args.self.now (stations_of c.args.spot.setting.now.sheet.now) c.args.spot.setting.now.terms.now) c.args.part (context_of c.args.self.now) u) P (typed (type_of (checked_program c.args.self.now (stations_of c.args.spot.setting.now.sheet.now) c.args.spot.setting.now.terms.now) c.args.written)))) (looked (bound_of (meaning_of c.args.self.now)) (continuations_of c.args.self.now) c.args.continuation c.in-Some.target e)) in
     let w1 = held_next r c.args.spot c.args.part c.in-Some.target.world w0 c.in_ok-judge_as.ensures.held.answer refl c.judge_as.ensures.same in
     let l = (row_parts c.requires).0 in
     record { judged = record { answer = finished w1 (written_in r w1 c.args.written l).1 (written_stays r w1 c.args.spot c.args.written l) (omega (arith, row_sizes c.requires)) }; same = w1.same }
@@ -480,61 +480,61 @@ below-judge_num-requires t c = (search rules, first_part c.requires c.args.left 
 pub below-judge_num-requires-2 : goal.below-judge_num-requires-2
 below-judge_num-requires-2 t c =
     let r = c.requires.asks.ready in
-    let w1 = held_next r c.args.spot c.args.left c.args.spot.world (begun c.requires) c.in_ok-judge_num.ensures.held.answer refl c.judge_num.ensures.same in
+    let w1 = held_next r c.args.spot c.args.left c.args.world (begun c.requires c.args.world) c.in_ok-judge_num.ensures.held.answer refl c.judge_num.ensures.same in
     (search rules, asked_next c.requires w1 c.args.right (row_parts c.requires).2 (omega (arith, row_sizes c.requires)))
 
 pub below-returns-in_err-judge_num-2 : goal.below-returns-in_err-judge_num-2
 below-returns-in_err-judge_num-2 t c =
     let r = c.requires.asks.ready in
-    let w1 = held_next r c.args.spot c.args.left c.args.spot.world (begun c.requires) c.in_ok-judge_num.ensures.held.answer refl c.judge_num.ensures.same in
+    let w1 = held_next r c.args.spot c.args.left c.args.world (begun c.requires c.args.world) c.in_ok-judge_num.ensures.held.answer refl c.judge_num.ensures.same in
     record {
-      judged = stops c.in_err-judge_num-2.field-0.0 c.from_residual-in_err-judge_num-2.ensures.1 (held_stops r c.args.spot c.args.right c.args.spot.world _ w1 c.in_err-judge_num-2.ensures.held.answer refl);
+      judged = stops c.in_err-judge_num-2.field-0.0 c.from_residual-in_err-judge_num-2.ensures.1 (held_stops r c.args.spot c.args.right c.args.world _ w1 c.in_err-judge_num-2.ensures.held.answer refl);
       same = same_then w1.same c.judge_num-2.ensures.same;
     }
 
 pub below-judge_as-requires : goal.below-judge_as-requires
 below-judge_as-requires t c =
     let r = c.requires.asks.ready in
-    let w1 = held_next r c.args.spot c.args.left c.args.spot.world (begun c.requires) c.in_ok-judge_num.ensures.held.answer refl c.judge_num.ensures.same in
-    let w2 = held_next r c.args.spot c.args.right c.args.spot.world w1 c.in_ok-judge_num-2.ensures.held.answer refl c.judge_num-2.ensures.same in
+    let w1 = held_next r c.args.spot c.args.left c.args.world (begun c.requires c.args.world) c.in_ok-judge_num.ensures.held.answer refl c.judge_num.ensures.same in
+    let w2 = held_next r c.args.spot c.args.right c.args.world w1 c.in_ok-judge_num-2.ensures.held.answer refl c.judge_num-2.ensures.same in
     (search rules, (asked_next c.requires w2 c.args.less (row_parts c.requires).3 (omega (arith, row_sizes c.requires)), (written_in r w2 c.args.written (row_parts c.requires).0).0))
 
 pub below-returns-in_err-judge_as : goal.below-returns-in_err-judge_as
 below-returns-in_err-judge_as t c =
     let r = c.requires.asks.ready in
-    let w1 = held_next r c.args.spot c.args.left c.args.spot.world (begun c.requires) c.in_ok-judge_num.ensures.held.answer refl c.judge_num.ensures.same in
-    let w2 = held_next r c.args.spot c.args.right c.args.spot.world w1 c.in_ok-judge_num-2.ensures.held.answer refl c.judge_num-2.ensures.same in
+    let w1 = held_next r c.args.spot c.args.left c.args.world (begun c.requires c.args.world) c.in_ok-judge_num.ensures.held.answer refl c.judge_num.ensures.same in
+    let w2 = held_next r c.args.spot c.args.right c.args.world w1 c.in_ok-judge_num-2.ensures.held.answer refl c.judge_num-2.ensures.same in
     record {
-      judged = stops c.in_err-judge_as.field-0.0 c.from_residual-in_err-judge_as.ensures.1 (held_stops r c.args.spot c.args.less c.args.spot.world _ w2 c.in_err-judge_as.ensures.held.answer (written_stays r w2 c.args.spot c.args.written (row_parts c.requires).0));
+      judged = stops c.in_err-judge_as.field-0.0 c.from_residual-in_err-judge_as.ensures.1 (held_stops r c.args.spot c.args.less c.args.world _ w2 c.in_err-judge_as.ensures.held.answer (written_stays r w2 c.args.spot c.args.written (row_parts c.requires).0));
       same = same_then w2.same c.judge_as.ensures.same;
     }
 
 pub below-judge_as-requires-2 : goal.below-judge_as-requires-2
 below-judge_as-requires-2 t c =
     let r = c.requires.asks.ready in
-    let w1 = held_next r c.args.spot c.args.left c.args.spot.world (begun c.requires) c.in_ok-judge_num.ensures.held.answer refl c.judge_num.ensures.same in
-    let w2 = held_next r c.args.spot c.args.right c.args.spot.world w1 c.in_ok-judge_num-2.ensures.held.answer refl c.judge_num-2.ensures.same in
-    let w3 = held_next r c.args.spot c.args.less c.args.spot.world w2 c.in_ok-judge_as.ensures.held.answer (written_stays r w2 c.args.spot c.args.written (row_parts c.requires).0) c.judge_as.ensures.same in
+    let w1 = held_next r c.args.spot c.args.left c.args.world (begun c.requires c.args.world) c.in_ok-judge_num.ensures.held.answer refl c.judge_num.ensures.same in
+    let w2 = held_next r c.args.spot c.args.right c.args.world w1 c.in_ok-judge_num-2.ensures.held.answer refl c.judge_num-2.ensures.same in
+    let w3 = held_next r c.args.spot c.args.less c.args.world w2 c.in_ok-judge_as.ensures.held.answer (written_stays r w2 c.args.spot c.args.written (row_parts c.requires).0) c.judge_as.ensures.same in
     (search rules, (asked_next c.requires w3 c.args.otherwise (row_parts c.requires).4 (omega (arith, row_sizes c.requires)), (written_in r w3 c.args.written (row_parts c.requires).0).0))
 
 pub below-returns-in_err-judge_as-2 : goal.below-returns-in_err-judge_as-2
 below-returns-in_err-judge_as-2 t c =
     let r = c.requires.asks.ready in
-    let w1 = held_next r c.args.spot c.args.left c.args.spot.world (begun c.requires) c.in_ok-judge_num.ensures.held.answer refl c.judge_num.ensures.same in
-    let w2 = held_next r c.args.spot c.args.right c.args.spot.world w1 c.in_ok-judge_num-2.ensures.held.answer refl c.judge_num-2.ensures.same in
-    let w3 = held_next r c.args.spot c.args.less c.args.spot.world w2 c.in_ok-judge_as.ensures.held.answer (written_stays r w2 c.args.spot c.args.written (row_parts c.requires).0) c.judge_as.ensures.same in
+    let w1 = held_next r c.args.spot c.args.left c.args.world (begun c.requires c.args.world) c.in_ok-judge_num.ensures.held.answer refl c.judge_num.ensures.same in
+    let w2 = held_next r c.args.spot c.args.right c.args.world w1 c.in_ok-judge_num-2.ensures.held.answer refl c.judge_num-2.ensures.same in
+    let w3 = held_next r c.args.spot c.args.less c.args.world w2 c.in_ok-judge_as.ensures.held.answer (written_stays r w2 c.args.spot c.args.written (row_parts c.requires).0) c.judge_as.ensures.same in
     record {
-      judged = stops c.in_err-judge_as-2.field-0.0 c.from_residual-in_err-judge_as-2.ensures.1 (held_stops r c.args.spot c.args.otherwise c.args.spot.world _ w3 c.in_err-judge_as-2.ensures.held.answer (written_stays r w3 c.args.spot c.args.written (row_parts c.requires).0));
+      judged = stops c.in_err-judge_as-2.field-0.0 c.from_residual-in_err-judge_as-2.ensures.1 (held_stops r c.args.spot c.args.otherwise c.args.world _ w3 c.in_err-judge_as-2.ensures.held.answer (written_stays r w3 c.args.spot c.args.written (row_parts c.requires).0));
       same = same_then w3.same c.judge_as-2.ensures.same;
     }
 
 pub below-returns : goal.below-returns
 below-returns t c =
     let r = c.requires.asks.ready in
-    let w1 = held_next r c.args.spot c.args.left c.args.spot.world (begun c.requires) c.in_ok-judge_num.ensures.held.answer refl c.judge_num.ensures.same in
-    let w2 = held_next r c.args.spot c.args.right c.args.spot.world w1 c.in_ok-judge_num-2.ensures.held.answer refl c.judge_num-2.ensures.same in
-    let w3 = held_next r c.args.spot c.args.less c.args.spot.world w2 c.in_ok-judge_as.ensures.held.answer (written_stays r w2 c.args.spot c.args.written (row_parts c.requires).0) c.judge_as.ensures.same in
-    let w4 = held_next r c.args.spot c.args.otherwise c.args.spot.world w3 c.in_ok-judge_as-2.ensures.held.answer (written_stays r w3 c.args.spot c.args.written (row_parts c.requires).0) c.judge_as-2.ensures.same in
+    let w1 = held_next r c.args.spot c.args.left c.args.world (begun c.requires c.args.world) c.in_ok-judge_num.ensures.held.answer refl c.judge_num.ensures.same in
+    let w2 = held_next r c.args.spot c.args.right c.args.world w1 c.in_ok-judge_num-2.ensures.held.answer refl c.judge_num-2.ensures.same in
+    let w3 = held_next r c.args.spot c.args.less c.args.world w2 c.in_ok-judge_as.ensures.held.answer (written_stays r w2 c.args.spot c.args.written (row_parts c.requires).0) c.judge_as.ensures.same in
+    let w4 = held_next r c.args.spot c.args.otherwise c.args.world w3 c.in_ok-judge_as-2.ensures.held.answer (written_stays r w3 c.args.spot c.args.written (row_parts c.requires).0) c.judge_as-2.ensures.same in
     let l = (row_parts c.requires).0 in
     record {
       judged = record { answer = finished w4 (written_in r w4 c.args.written l).1 (written_stays r w4 c.args.spot c.args.written l) (omega (arith, row_sizes c.requires)) };

@@ -14,5 +14,5 @@ pub returns : goal.returns
 returns c =
     let h = c.build.ensures in
     let s = c.args.spot in
-    let w0 = onwards (begun c.requires) (registered_goes (gauges_there (stations_of s.sheet.now)) (world_of s.world) c.args.number s.term c.in_ok-register_at.field-0 (typed num) (sym c.register_at.ensures ∙ c.in_ok-register_at.was)) in
+    let w0 = onwards (begun c.requires c.args.world) (registered_goes (gauges_there (stations_of s.setting.now.sheet.now)) (world_of c.args.world) c.args.number s.term c.in_ok-register_at.field-0 (typed num) (sym c.register_at.ensures ∙ c.in_ok-register_at.was)) in
     record { judged = record { answer = built_last c.requires.asks.ready w0 tt tt h refl (omega (arith, row_sizes c.requires)) }; same = h.same }

@@ -9,4 +9,4 @@ build-requires c = omega (arith, c.requires.asks.room, c.requires.asks.few, row_
 pub returns : goal.returns
 returns c =
     let h = c.build.ensures in
-    record { judged = record { answer = built_last c.requires.asks.ready (begun c.requires) tt tt h refl (omega (arith, row_sizes c.requires)) }; same = h.same }
+    record { judged = record { answer = built_last c.requires.asks.ready (begun c.requires c.args.world) tt tt h refl (omega (arith, row_sizes c.requires)) }; same = h.same }

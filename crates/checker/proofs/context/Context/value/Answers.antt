@@ -13,7 +13,7 @@ pub returns-in_default : goal.returns-in_default
 returns-in_default c =
     let s = c.args.self.now in
     record {
-      judged = record { answer = ap (λ (x : Lookup (Ty × World)). bound_value c.args.spot.term (world_of c.args.spot.world) x) (not_looked (bound_of (meaning_of s)) (values_of s) c.args.count (found c.args.count c.bound_values.ensures c.bound_at.ensures c.in_default.is)) };
+      judged = record { answer = ap (λ (x : Lookup (Ty × World)). bound_value c.args.spot.term (world_of c.args.world) x) (not_looked (bound_of (meaning_of s)) (values_of s) c.args.count (found c.args.count c.bound_values.ensures c.bound_at.ensures c.in_default.is)) };
       same = same_self s;
     }
 
@@ -24,13 +24,13 @@ returns-then-eq c =
     let sz = row_sizes c.requires in
     let b = c.in-Some.found in
     let e = found c.args.count c.bound_values.ensures c.bound_at.ensures c.in-Some.is in
-    let p : b.world ≡ c.args.spot.world = search rules in
+    let p : b.world ≡ c.args.world = search rules in
     record {
       judged = record {
         answer = record {
           number = looked_below (length (rows_of s)) (values_of s) c.args.count b A.ready.values e;
-          verdict = ap (λ (x : Lookup (Ty × World)). bound_value c.args.spot.term (world_of c.args.spot.world) x) (looked (bound_of (meaning_of s)) (values_of s) c.args.count b e)
-              ∙ needs_met (world_discrete ℕ_discrete (world_of b.world) (world_of c.args.spot.world)) (Elsewhere c.args.spot.term) (typed (meaning_of s b.ty)) (ap world_of p);
+          verdict = ap (λ (x : Lookup (Ty × World)). bound_value c.args.spot.term (world_of c.args.world) x) (looked (bound_of (meaning_of s)) (values_of s) c.args.count b e)
+              ∙ needs_met (world_discrete ℕ_discrete (world_of b.world) (world_of c.args.world)) (Elsewhere c.args.spot.term) (typed (meaning_of s b.ty)) (ap world_of p);
           grown = grown_more (omega (arith, sz)) (grown_none s A.ready);
         };
       };
@@ -45,8 +45,8 @@ returns-else-eq c =
     record {
       judged = record {
         answer =
-            ap (λ (x : Lookup (Ty × World)). bound_value c.args.spot.term (world_of c.args.spot.world) x) (looked (bound_of (meaning_of s)) (values_of s) c.args.count b e)
-            ∙ needs_unmet (world_discrete ℕ_discrete (world_of b.world) (world_of c.args.spot.world)) (Elsewhere c.args.spot.term) (typed (meaning_of s b.ty)) (place_other b.world c.args.spot.world (λ q. search rules));
+            ap (λ (x : Lookup (Ty × World)). bound_value c.args.spot.term (world_of c.args.world) x) (looked (bound_of (meaning_of s)) (values_of s) c.args.count b e)
+            ∙ needs_unmet (world_discrete ℕ_discrete (world_of b.world) (world_of c.args.world)) (Elsewhere c.args.spot.term) (typed (meaning_of s b.ty)) (place_other b.world c.args.world (λ q. search rules));
       };
       same = same_self s;
     }
