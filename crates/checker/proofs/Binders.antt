@@ -1,5 +1,5 @@
 -- Judging inside a binder: what is bound around it, and what is left when its scope ends.
-use Rattle.std.proofs.Common.{◌≡◌, ℕ, ◌+◌, ◌<◌, ◌≤◌, List, [], ◌∷◌, ◌++◌, map, length, take, Ok, Err, vec_items, Result, sym, ap, ◌∙◌, subst, add-one, arith}
+use Rattle.std.proofs.Common.{◌≡◌, ℕ, ◌+◌, ◌<◌, ◌≤◌, List, [], ◌∷◌, ◌++◌, map, length, take, vec_items, sym, ap, ◌∙◌, subst, add-one, arith}
 use Rattle.instruments.specs.declared.sheet.Station.{Station}
 use Rattle.syntax.specs.declared.program.Ty.{Ty as TypeRow}
 use Rattle.syntax.specs.declared.program.Term.{Term as TermRow}
@@ -11,9 +11,7 @@ use Rattle.checker.specs.declared.context.Context.{Context}
 use Rattle.checker.specs.TypeTable.{meaning, Laid}
 use Rattle.checker.specs.Scopes.{values_of, continuations_of, rows_of, meaning_of, context_of, bound_of, around, world_of, Kept, BoundValue, BoundWorld, BoundContinuation}
 use Rattle.std.proofs.lemmas.List.{map-append, take-take}
-use Rattle.lines.specs.declared.refusal.CheckFault.{CheckFault}
-use Rattle.calculus.specs.Checker.{Checked, typed}
-use Rattle.checker.specs.Judging.{checked_program, EachBelow, SoundTerms, Asks, Grown, Typed, Answers, Judged, Same, Under}
+use Rattle.checker.specs.Judging.{checked_program, EachBelow, SoundTerms, Asks, Grown, Same, Under}
 
 pub kept_then : {h : Height} {c d e : Context} → Kept h c d → Kept h d e → Kept h c e
 kept_then p q = record { values = q.values ∙ p.values; continuations = q.continuations ∙ p.continuations; written = q.written ∙ p.written }

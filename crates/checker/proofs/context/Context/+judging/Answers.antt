@@ -10,7 +10,7 @@ use Rattle.calculus.specs.Checker.{typed, then_type, need, when_at, when_mobile,
 use Rattle.checker.specs.declared.context.At.TheVariants.{Level}
 use Rattle.checker.specs.declared.context.Height.{Height}
 use Rattle.checker.specs.Scopes.{meaning_of, context_of, world_of, bound_of, continuations_of}
-use Rattle.checker.specs.Judging.{checked_program, size, Judged, verdict, Same}
+use Rattle.checker.specs.Judging.{checked_program, verdict, Same}
 use Rattle.checker.proofs.Verdicts.{keeps, context_kept, program_kept}
 use Rattle.checker.proofs.Arms.{same_self, same_then, grown_more, next_part, row_parts, row_sizes, first_part, stops, fits, unfit, held_fits, held_unfit, stops_held, by_row, registered_goes, found, looked, not_looked, looked_below, judged_from}
 use Rattle.checker.proofs.Steps.{begun, judged_next, judged_stops, held_next, held_stops, body_verdict, value_written, continuation_written, body_next, body_held, body_stops, body_unheld, written_still, finished, built_last, onwards, stays_on, located, asked_next, written_stays, written_in}
