@@ -92,7 +92,7 @@ points = [
     ('2 twins: bodies of one skeleton', twins()),
     ('3 loops', lines(r'\bfor .* in .*\{$|\bwhile .*\{$|\bloop \{')),
     ('4 equality, copying and conversion by hand', lines(r'fn (same|eq|copy_\w+|is_num|is_never)\b|\bas u(8|16|32)\b', no_tests)),
-    ('4 printing by hand: functions over a pen', lines(r'pen: &mut Pen')),
+    ('4 printing by hand: functions over a pen', lines(r'pen: &mut (?:Buffer)?Pen')),
     ('5 facts in the contracts of three functions or more', facts()),
     ('5 parameters that travel together', together()),
     ('6 buffers with a length beside them, tables with a capacity', lines(r'\[\w+(<\w+>)?; \d+\],|with_capacity|push_reserved|vec_capacity', no_tests)),
