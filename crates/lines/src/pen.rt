@@ -49,10 +49,13 @@ impl Pen {
         Ok(())
     }
 
-    // Takes a number in decimal.
+    // Takes a number in decimal: one of one digit as that byte, which most numbers of a text are.
     pub fn number(&mut self, out: &mut [u8], n: usize) -> Result<(), Short>
         ensures { Writes self.old out.old (decimal n) result self.new out.new }
     {
+        if n < 10 {
+            return self.word(out, &[b'0' + n as u8]);
+        }
         let mut digits = Buffer::new();
         self.word(out, digits.format(n).as_bytes())
     }

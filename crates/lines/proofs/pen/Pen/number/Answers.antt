@@ -1,0 +1,5 @@
+use Rattle.std.proofs.lemmas.Fmt.{decimal_digit}
+use Rattle.lines.proofs.pen.Pen.number.Goals as goal
+
+pub returns-then-n-lt10 : goal.returns-then-n-lt10
+returns-then-n-lt10 c = rw (decimal_digit c.args.n c.if-n-lt10.true) c.word.ensures.writes
